@@ -1,0 +1,6 @@
+-- Trees, tables and their words; earliest tables, their judgement, sameness, the form.
+pub mod Machine
+pub mod Earliest
+pub mod Verdict
+pub mod Same
+pub mod Form

@@ -1,0 +1,1 @@
+// The machine as mathematics: this crate has definitions and laws, and no code.

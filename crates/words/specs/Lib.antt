@@ -1,0 +1,3 @@
+-- Words, sets of words, and answers.
+pub mod Word
+pub mod Reply

@@ -1,0 +1,1 @@
+// Words as mathematics: this crate has definitions and laws, and no code.
