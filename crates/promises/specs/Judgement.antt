@@ -1,0 +1,16 @@
+-- The judgement call: 1 to 5, then 13 to 18 in number order, or earliest. It speaks of infinite sets, so it is a relation. Definitions only.
+use mathlib.Core.Path.{_≡_}
+use mathlib.Core.List.{List}
+use Prim.Native.Nat.{ℕ}
+use Rattle.words.specs.Reply.{Reply, given, refused}
+use Rattle.machine.specs.Machine.{Table}
+use Rattle.machine.specs.Verdict.{Verdict, earliest, late, Judged}
+use Rattle.text.specs.Reading.{readTable}
+
+abbrev pub JudgedReading : Reply Table → Verdict → Type 0
+JudgedReading (given M) v = Judged M v
+JudgedReading (refused n p) v = v ≡ late n p
+
+-- v is the answer of the judgement call for a table text.
+abbrev pub JudgementAnswer : List ℕ → Verdict → Type 0
+JudgementAnswer text v = JudgedReading (readTable text) v

@@ -1,0 +1,7 @@
+-- Table texts: their limits, lines, frames and fields, how one is read and how it is written.
+pub mod Limits
+pub mod Lines
+pub mod Fields
+pub mod Frames
+pub mod Reading
+pub mod Writing

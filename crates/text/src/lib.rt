@@ -1,0 +1,1 @@
+// Table texts as mathematics: this crate has definitions and laws, and no code.
