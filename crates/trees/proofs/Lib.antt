@@ -1,0 +1,2 @@
+-- Laws of tree bytes.
+pub mod Preorder
