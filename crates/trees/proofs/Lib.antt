@@ -1,2 +1,5 @@
 -- Laws of tree bytes.
 pub mod Preorder
+pub mod Replies
+pub mod Shape
+pub mod Whole

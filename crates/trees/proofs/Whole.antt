@@ -1,0 +1,81 @@
+-- Tree bytes are read as a tree exactly if they are its preorder, it is ranked and of at most 64 levels, and they are not too long. Assumes nothing.
+use mathlib.Core.Path.{_≡_, refl, sym, ap, subst, _∙_}
+use mathlib.Core.Bool.{Bool, true, false, not, _||_}
+use mathlib.Core.List.{List, [], _∷_, _++_, append-nil}
+use mathlib.Core.Logic.{_⊎_, inl, inr, _↔_}
+use Prim.Native.Nat.{ℕ, zero, suc, _+_, _<_, _≤_}
+use native.Mathlib.Omega.{arith}
+use borrow.Author.Tests.{ltb-true, ltb-false, eqb-true, eqb-false, not-false, lt-ltb, le-ltb, ne-eqb, eq-eqb}
+use lib.Dec.{ltb, eqb}
+use lib.ListN.{length}
+use Rattle.words.specs.Reply.{Reply, given, refused, _then_, refuse-if}
+use Rattle.machine.specs.Machine.{Tree}
+use Rattle.trees.specs.Preorder.{preorder, Ranked, Levels}
+use Rattle.trees.specs.Shape.{Read, treeAt, alone, readTree, treeMost, depthMost}
+use Rattle.trees.proofs.Preorder.{preorder-some}
+use Rattle.trees.proofs.Replies.{given-injective, refuse-given, then-given}
+use Rattle.trees.proofs.Shape.{IsTree, tree-sound, tree-complete}
+
+-- A list of length 0 is empty.
+no-length : (bs : List ℕ) → length bs ≡ 0 → bs ≡ []
+no-length [] e = refl
+no-length (b ∷ bs) e = absurd (omega arith)
+
+-- Either test fails only if both do, and holds only if one does.
+both-fail : (a b : Bool) → (a || b) ≡ false → (a ≡ false) × (b ≡ false)
+both-fail true b e = let z : _≡_ {A = ℕ} 0 1 = cc in absurd (omega arith)
+both-fail false b e = (refl, e)
+
+one-holds : (a b : Bool) → (a || b) ≡ true → (a ≡ true) ⊎ (b ≡ true)
+one-holds true b e = inl refl
+one-holds false b e = inr e
+
+-- The bytes are neither none nor too many.
+pub record Sized (bs : List ℕ) : Type 0 where
+  pub some : 0 < length bs
+  pub most : length bs ≤ treeMost
+
+abbrev pub wrongSize : List ℕ → Bool
+wrongSize bs = eqb (length bs) 0 || ltb treeMost (length bs)
+
+-- The test of number 6 fails exactly for bytes that are neither none nor too many.
+pub size-right : (bs : List ℕ) → wrongSize bs ≡ false → Sized bs
+size-right bs e =
+    let i = both-fail (eqb (length bs) 0) (ltb treeMost (length bs)) e in
+    record { some = omega (arith, eqb-false (length bs) 0 (i .0)); most = ltb-false treeMost (length bs) (i .1) }
+
+pub right-size : (bs : List ℕ) → Sized bs → wrongSize bs ≡ false
+right-size bs s = rw (ne-eqb (length bs) 0 (λ z. omega arith), le-ltb treeMost (length bs) (s .most))
+
+-- A tree is read alone exactly if nothing is left behind it.
+pub alone-given : (r : Read Tree) (t : Tree) → alone r ≡ given t → (r .value ≡ t) × (r .left ≡ [])
+alone-given r t e =
+    let i = refuse-given (not (eqb (length (r .left)) 0)) 11 (r .place) (given (r .value)) t e in
+    (given-injective (r .value) t (i .1), no-length (r .left) (eqb-true (length (r .left)) 0 (not-false (eqb (length (r .left)) 0) (i .0))))
+
+-- Reading is sound.
+pub read-sound : (ar bs : List ℕ) (t : Tree) → readTree ar bs ≡ given t → (bs ≡ preorder t) × Ranked ar t × Levels t 64 × (length bs ≤ 32768)
+unfolding readTree
+read-sound ar bs t e =
+    let i = refuse-given (wrongSize bs) 6 0 (treeAt depthMost ar 0 bs then alone) t e in
+    let j = then-given (treeAt depthMost ar 0 bs) alone t (i .1) in
+    let a = tree-sound depthMost ar 0 bs (j .0) (j .1) in
+    let k = alone-given (j .0) t (j .2) in (
+      a .is ∙ ap (λ (x : List ℕ). preorder (j .0 .value) ++ x) (k .1) ∙ append-nil (preorder (j .0 .value)) ∙ ap preorder (k .0),
+      subst (λ (x : Tree). Ranked ar x) (k .0) (a .ranks),
+      subst (λ (x : Tree). Levels x 64) (k .0) (a .levels),
+      size-right bs (i .0) .most,
+    )
+
+-- Reading is complete.
+pub read-complete : (ar bs : List ℕ) (t : Tree) → bs ≡ preorder t → Ranked ar t → Levels t 64 → length bs ≤ 32768 → readTree ar bs ≡ given t
+unfolding readTree
+read-complete ar bs t e h l m =
+    let s : Sized bs = record { some = rw e (preorder-some t); most = m } in
+    let c : treeAt depthMost ar 0 bs ≡ given (record { value = t; place = 0 + length (preorder t); left = [] }) =
+    ap (treeAt depthMost ar 0) (e ∙ sym (append-nil (preorder t))) ∙ tree-complete t depthMost ar 0 [] h l in
+    rw (right-size bs s, c)
+
+-- The two together.
+pub read-tree : (ar bs : List ℕ) (t : Tree) → (readTree ar bs ≡ given t) ↔ ((bs ≡ preorder t) × Ranked ar t × Levels t 64 × (length bs ≤ 32768))
+read-tree ar bs t = (read-sound ar bs t, λ h. read-complete ar bs t (h .0) (h .1) (h .2) (h .3))
