@@ -3,3 +3,7 @@ pub mod Preorder
 pub mod Replies
 pub mod Shape
 pub mod Whole
+pub mod Causes
+pub mod Stops
+pub mod Stopped
+pub mod Refusals

@@ -15,6 +15,10 @@ module _ {A : Type 0} where
   pub given-injective : (a b : A) → given a ≡ given b → a ≡ b
   given-injective a b e = cc
 
+  -- Two equal refusals have one number and one place.
+  pub refused-injective : (n p x y : ℕ) → _≡_ {A = Reply A} (refused n p) (refused x y) → (x ≡ n) × (y ≡ p)
+  refused-injective n p x y e = ((cc), (cc))
+
   -- A yes comes past the test.
   pub refuse-given : (b : Bool) (n p : ℕ) (o : Reply A) (a : A) → refuse-if b n p o ≡ given a → (b ≡ false) × (o ≡ given a)
   refuse-given true n p o a e = let z : _≡_ {A = ℕ} 0 1 = cc in absurd (omega arith)

@@ -1,8 +1,8 @@
 -- Tree bytes are read as a tree exactly if they are its preorder, it is ranked and of at most 64 levels, and they are not too long. Assumes nothing.
 use mathlib.Core.Path.{_≡_, refl, sym, ap, subst, _∙_}
-use mathlib.Core.Bool.{Bool, true, false, not, _||_}
+use mathlib.Core.Bool.{Bool, true, false, not, _||_, or-true}
 use mathlib.Core.List.{List, [], _∷_, _++_, append-nil}
-use mathlib.Core.Logic.{_⊎_, inl, inr, _↔_}
+use mathlib.Core.Logic.{_⊎_, inl, inr, ⊎-elim, _↔_}
 use Prim.Native.Nat.{ℕ, zero, suc, _+_, _<_, _≤_}
 use native.Mathlib.Omega.{arith}
 use borrow.Author.Tests.{ltb-true, ltb-false, eqb-true, eqb-false, not-false, lt-ltb, le-ltb, ne-eqb, eq-eqb}
@@ -13,6 +13,7 @@ use Rattle.machine.specs.Machine.{Tree}
 use Rattle.trees.specs.Preorder.{preorder, Ranked, Levels}
 use Rattle.trees.specs.Shape.{Read, treeAt, alone, readTree, treeMost, depthMost}
 use Rattle.trees.proofs.Preorder.{preorder-some}
+use Rattle.trees.proofs.Causes.{Sized}
 use Rattle.trees.proofs.Replies.{given-injective, refuse-given, then-given}
 use Rattle.trees.proofs.Shape.{IsTree, tree-sound, tree-complete}
 
@@ -30,11 +31,7 @@ one-holds : (a b : Bool) → (a || b) ≡ true → (a ≡ true) ⊎ (b ≡ true)
 one-holds true b e = inl refl
 one-holds false b e = inr e
 
--- The bytes are neither none nor too many.
-pub record Sized (bs : List ℕ) : Type 0 where
-  pub some : 0 < length bs
-  pub most : length bs ≤ treeMost
-
+-- The test of number 6.
 abbrev pub wrongSize : List ℕ → Bool
 wrongSize bs = eqb (length bs) 0 || ltb treeMost (length bs)
 
@@ -46,6 +43,15 @@ size-right bs e =
 
 pub right-size : (bs : List ℕ) → Sized bs → wrongSize bs ≡ false
 right-size bs s = rw (ne-eqb (length bs) 0 (λ z. omega arith), le-ltb treeMost (length bs) (s .most))
+
+-- It holds exactly for bytes that are none or too many.
+pub size-wrong : (bs : List ℕ) → wrongSize bs ≡ true → (length bs ≡ 0) ⊎ (treeMost < length bs)
+size-wrong bs e =
+    ⊎-elim (λ k. inl (eqb-true (length bs) 0 k)) (λ k. inr (ltb-true treeMost (length bs) k)) (one-holds (eqb (length bs) 0) (ltb treeMost (length bs)) e)
+
+pub wrong-size : (bs : List ℕ) → (length bs ≡ 0) ⊎ (treeMost < length bs) → wrongSize bs ≡ true
+wrong-size bs (inl e) = rw (eq-eqb (length bs) 0 e)
+wrong-size bs (inr h) = rw (lt-ltb treeMost (length bs) h) (or-true (eqb (length bs) 0))
 
 -- A tree is read alone exactly if nothing is left behind it.
 pub alone-given : (r : Read Tree) (t : Tree) → alone r ≡ given t → (r .value ≡ t) × (r .left ≡ [])
