@@ -7,3 +7,6 @@ pub mod Causes
 pub mod Stops
 pub mod Stopped
 pub mod Refusals
+pub mod Found
+pub mod Lacking
+pub mod Places
