@@ -1,41 +1,45 @@
--- A state has no word on a ranked tree exactly if some position lacks its rule; that position lies in the tree, and moves with the tree. Assumes nothing.
-use mathlib.Core.Path.{_≡_, refl, sym, ap, subst, _∙_}
+-- A state has no word on a ranked tree exactly if some position lacks its rule. Assumes nothing.
+use mathlib.Core.Path.{_≡_, refl, sym, subst, _∙_}
 use mathlib.Core.List.{List, [], _∷_, _++_}
 use mathlib.Core.Logic.{_↔_}
 use mathlib.Core.Option.{Option, none, some}
-use Prim.Native.Nat.{ℕ, zero, suc, _+_, _<_, _≤_}
+use Prim.Native.Nat.{ℕ, suc, _+_}
 use native.Mathlib.Omega.{arith}
-use lib.ListN.{length, getD, length-append}
+use lib.ListN.{length}
 use Rattle.words.specs.Word.{Word, _⊕_}
 use Rattle.machine.specs.Machine.{Tree, Forest, node, ∅, _▸_, Child, Rule, Table, find, apply, word, words, WellMade}
-use Rattle.trees.specs.Preorder.{preorder, preorders, count, Ranked, Rankeds}
+use Rattle.trees.specs.Preorder.{preorder, count, Ranked, Rankeds}
 use Rattle.trees.specs.Lacking.{orElse, ruleOr, lacks, lackss}
 use Rattle.trees.proofs.Found.{found-rest}
-use Rattle.trees.proofs.Preorder.{preorder-some}
 
 -- If a place lacks its rule there is no word.
 abbrev Silent : Option ℕ → Option Word → Type 0
 Silent none a = Unit {0}
 Silent (some p) a = a ≡ none
 
+-- Nothing joined is nothing.
 join-none : (a : Option Word) → a ⊕ none ≡ none
 join-none none = refl
 join-none (some u) = refl
 
+-- So it is of a child, its word and the rest.
 silent-join : (o i : Option ℕ) (a b : Option Word) (v : Word) → Silent o a → Silent i b → Silent (orElse o i) (a ⊕ some v ⊕ b)
 silent-join none none a b v h k = tt
 silent-join none (some p) a b v h k = rw k (join-none a)
 silent-join (some p) i a b v h k = rw h
 
+-- So it is behind the first word of a rule.
 silent-first : (o : Option ℕ) (a : Option Word) (v : Word) → Silent o a → Silent o (some v ⊕ a)
 silent-first none a v h = tt
 silent-first (some p) a v h = rw h
 
+-- So it is of a rule.
 silent-rule : (o : Option Rule) (p : ℕ) (f : List Child → Option Word) (g : List Child → Option ℕ)
     → ((cs : List Child) → Silent (g cs) (f cs)) → Silent (ruleOr o p g) (apply o f)
 silent-rule none p f g h = refl
 silent-rule (some r) p f g h = silent-first (g (r .rest)) (f (r .rest)) (r .first) (h (r .rest))
 
+-- So it is of a tree, and of trees with the rest of a rule.
 mutual
   unfolding word words lacks lackss
 
@@ -54,21 +58,25 @@ abbrev Speaks : Option ℕ → Option Word → Type 0
 Speaks none a = (w : Word) × (a ≡ some w)
 Speaks (some p) a = Unit {0}
 
+-- So it is of a child, its word and the rest.
 speaks-join : (o i : Option ℕ) (a b : Option Word) (v : Word) → Speaks o a → Speaks i b → Speaks (orElse o i) (a ⊕ some v ⊕ b)
 speaks-join none none a b v h k = (h .0 ++ (v ++ k .0), rw (h .1, k .1))
 speaks-join none (some p) a b v h k = tt
 speaks-join (some p) i a b v h k = tt
 
+-- So it is behind the first word of a rule.
 speaks-first : (o : Option ℕ) (a : Option Word) (v : Word) → Speaks o a → Speaks o (some v ⊕ a)
 speaks-first none a v h = (v ++ h .0, rw (h .1))
 speaks-first (some p) a v h = tt
 
+-- So it is of a rule.
 speaks-rule : (o : Option Rule) (p : ℕ) (f : List Child → Option Word) (g : List Child → Option ℕ)
     → ((r : Rule) → o ≡ some r → Speaks (g (r .rest)) (f (r .rest))) → Speaks (ruleOr o p g) (apply o f)
 speaks-rule none p f g h = tt
 speaks-rule (some r) p f g h = speaks-first (g (r .rest)) (f (r .rest)) (r .first) (h r refl)
 
 module _ (M : Table) (made : WellMade M) where
+  -- So it is of a ranked tree, and of ranked trees with as many children of a rule.
   mutual
     unfolding word words lacks lackss Ranked Rankeds count
 

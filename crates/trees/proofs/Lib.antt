@@ -1,9 +1,9 @@
--- Laws of tree bytes.
+-- Laws of tree bytes: a preorder is read back in one way; what is read, and what is refused, and why; where a rule is lacking.
 pub mod Preorder
 pub mod Replies
 pub mod Shape
-pub mod Whole
 pub mod Causes
+pub mod Whole
 pub mod Stops
 pub mod Stopped
 pub mod Refusals

@@ -2,7 +2,7 @@
 use mathlib.Core.Path.{_≡_, refl, sym, ap, subst, _∙_}
 use mathlib.Core.List.{List, [], _∷_, _++_}
 use mathlib.Core.Option.{Option, none, some}
-use Prim.Native.Nat.{ℕ, zero, suc, _+_, _<_, _≤_}
+use Prim.Native.Nat.{ℕ, suc, _+_, _<_, _≤_}
 use native.Mathlib.Nat.{add-zero}
 use native.Mathlib.Omega.{arith}
 use lib.ListN.{length, length-append}
@@ -15,18 +15,22 @@ abbrev Within : ℕ → ℕ → Option ℕ → Type 0
 Within a b none = Unit {0}
 Within a b (some p) = (a ≤ p) × (p < b)
 
+-- A place within bounds is within wider ones.
 within-wider : (o : Option ℕ) (a b c d : ℕ) → c ≤ a → b ≤ d → Within a b o → Within c d o
 within-wider none a b c d i j h = tt
 within-wider (some p) a b c d i j h = omega arith
 
+-- The first of two places is within the bounds of both.
 within-join : (o i : Option ℕ) (a m b : ℕ) → a ≤ m → m ≤ b → Within a m o → Within m b i → Within a b (orElse o i)
 within-join none i a m b j k h l = within-wider i m b a b j (omega arith) l
 within-join (some p) i a m b j k h l = omega arith
 
+-- The place of a rule, or one below it, is within the bounds.
 within-rule : (o : Option Rule) (p b : ℕ) (g : List Child → Option ℕ) → p < b → ((cs : List Child) → Within p b (g cs)) → Within p b (ruleOr o p g)
 within-rule none p b g h k = omega arith
 within-rule (some r) p b g h k = k (r .rest)
 
+-- What lacks in a tree is within it, and what lacks in trees is within them.
 mutual
   unfolding lacks lackss preorder preorders
 
@@ -53,10 +57,12 @@ abbrev pub later : ℕ → Option ℕ → Option ℕ
 later d none = none
 later d (some p) = some (d + p)
 
+-- The first of two places moves on with both.
 later-join : (o i : Option ℕ) (d : ℕ) → orElse (later d o) (later d i) ≡ later d (orElse o i)
 later-join none i d = refl
 later-join (some p) i d = refl
 
+-- The place of a rule, or one below it, moves on with the tree.
 later-rule : (o : Option Rule) (d p : ℕ) (f g : List Child → Option ℕ) → ((cs : List Child) → f cs ≡ later d (g cs)) → ruleOr o (d + p) f ≡ later d (ruleOr o p g)
 later-rule none d p f g h = refl
 later-rule (some r) d p f g h = h (r .rest)
@@ -70,6 +76,7 @@ mutual
       let i : suc (d + p) ≡ d + suc p = omega arith in
       later-rule (find (M .rows) q f) d p (λ cs. lackss M ts cs (suc (d + p))) (λ cs. lackss M ts cs (suc p)) (λ cs. ap (lackss M ts cs) i ∙ lackss-later ts M cs d (suc p))
 
+  -- The same of trees one after the other.
   lackss-later : (ts : Forest) (M : Table) (cs : List Child) (d p : ℕ) → lackss M ts cs (d + p) ≡ later d (lackss M ts cs p)
   lackss-later ∅ M cs d p = refl
   lackss-later (t ▸ ts) M [] d p = refl

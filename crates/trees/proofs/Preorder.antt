@@ -1,9 +1,9 @@
 -- A preorder is never empty, and it can be read back in one way only. Assumes nothing.
 use mathlib.Core.Path.{_≡_, refl, sym, ap, ap₂, _∙_}
-use mathlib.Core.List.{List, [], _∷_, _++_, append-assoc}
-use Prim.Native.Nat.{ℕ, zero, suc, _+_, _<_, _≤_}
+use mathlib.Core.List.{List, [], _++_, append-assoc}
+use Prim.Native.Nat.{ℕ, _<_}
 use native.Mathlib.Omega.{arith}
-use lib.ListN.{length, getD, length-append}
+use lib.ListN.{length, getD}
 use Rattle.machine.specs.Machine.{Tree, Forest, node, ∅, _▸_}
 use Rattle.trees.specs.Preorder.{preorder, preorders, count, Ranked, Rankeds}
 
@@ -35,3 +35,7 @@ mutual
       let a = preorder-unique t t′ ar (preorders ts ++ rest) (preorders ts′ ++ rest′) (h .0) (h′ .0) i in
       let b = preorders-unique ts ts′ ar rest rest′ (omega arith) (h .1) (h′ .1) (a .1) in
       (ap₂ _▸_ (a .0) (b .0), b .1)
+
+-- Two ranked trees with one preorder are one tree.
+pub preorder-injective : (t t′ : Tree) (ar : List ℕ) → Ranked ar t → Ranked ar t′ → preorder t ≡ preorder t′ → t ≡ t′
+preorder-injective t t′ ar h h′ e = preorder-unique t t′ ar [] [] h h′ (ap (λ (x : List ℕ). x ++ []) e) .0

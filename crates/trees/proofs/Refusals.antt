@@ -1,20 +1,20 @@
 -- Tree bytes are refused exactly for the listed causes. Assumes nothing.
 use mathlib.Core.Path.{_≡_, refl, sym, ap, subst, subst₂, _∙_}
-use mathlib.Core.Bool.{Bool, true, false, not, _||_}
+use mathlib.Core.Bool.{not}
 use mathlib.Core.List.{List, [], _∷_, _++_, append-nil}
-use mathlib.Core.Logic.{_⊎_, inl, inr, ⊎-elim, _↔_}
-use Prim.Native.Nat.{ℕ, zero, suc, _+_, _<_, _≤_}
+use mathlib.Core.Logic.{⊎-elim, _↔_}
+use Prim.Native.Nat.{ℕ, suc, _+_, _<_, _≤_}
 use native.Mathlib.Omega.{arith}
-use borrow.Author.Tests.{ltb-true, eqb-true, eqb-false, not-true, lt-ltb, eq-eqb, ne-eqb}
-use lib.Dec.{ltb, eqb}
+use borrow.Author.Tests.{eqb-false, not-true, ne-eqb}
+use lib.Dec.{eqb}
 use lib.ListN.{length, getD, take, drop, length-append, length-drop, take-append-drop}
-use lib.Seq.{take-at, getD-at, drop-cons, split-at, length-take-le}
-use Rattle.words.specs.Reply.{Reply, given, refused, _then_, refuse-if}
+use lib.Seq.{take-at, getD-at, drop-cons, length-take-le}
+use Rattle.words.specs.Reply.{given, refused, _then_}
 use Rattle.machine.specs.Machine.{Tree}
-use Rattle.trees.specs.Preorder.{preorder, Ranked, Levels}
-use Rattle.trees.specs.Shape.{Read, treeAt, alone, readTree, treeMost, depthMost}
+use Rattle.trees.specs.Preorder.{preorder}
+use Rattle.trees.specs.Shape.{Read, treeAt, alone, readTree, depthMost}
 use Rattle.trees.proofs.Causes.{Begun, Sized, Cause, size, unknown, early, deep, behind}
-use Rattle.trees.proofs.Replies.{given-refused, refused-injective, refuse-refused, then-refused}
+use Rattle.trees.proofs.Replies.{given-refused, refuse-refused, then-refused}
 use Rattle.trees.proofs.Shape.{IsTree, tree-sound, tree-complete}
 use Rattle.trees.proofs.Stops.{Why, ended, strange, under, Stops, tree-stops}
 use Rattle.trees.proofs.Stopped.{stops-tree}
@@ -26,6 +26,7 @@ record Seam (bs u : List ℕ) (f q : ℕ) : Type 0 where
   there : getD bs q 0 ≡ f
   inside : q < length bs
 
+-- Bytes made so have that seam.
 seam : (bs u cs : List ℕ) (f q : ℕ) → bs ≡ u ++ f ∷ cs → q ≡ length u → Seam bs u f q
 seam bs u cs f q e j =
     record {
@@ -74,6 +75,7 @@ stops-refused : (ar bs : List ℕ) (x q : ℕ) → Sized bs → Stops ar depthMo
 unfolding readTree
 stops-refused ar bs x q s t = rw (right-size bs s, stops-tree depthMost ar 0 bs x q t)
 
+-- Bytes whose first q begin a tree, and whose others are no tree, stop at q.
 stops-within : (ar bs : List ℕ) (x q m : ℕ) → q ≤ length bs → Begun ar m depthMost (take q bs) → Why ar m (drop q bs) x → Stops ar depthMost 0 bs x q
 stops-within ar bs x q m l b w =
     record { m = m; u = take q bs; rest = drop q bs; begun = b; is = sym (take-append-drop q bs); place = omega (arith, length-take-le q bs l); why = w }

@@ -1,17 +1,17 @@
 -- The reading of a tree is sound and complete: it reads the preorder of a ranked tree of at most n levels, and nothing else. Assumes nothing.
 use mathlib.Core.Path.{_≡_, refl, sym, ap, subst, _∙_}
-use mathlib.Core.Bool.{Bool, true, false, not, _||_}
+use mathlib.Core.Bool.{not}
 use mathlib.Core.List.{List, [], _∷_, _++_, append-assoc}
-use Prim.Native.Nat.{ℕ, zero, suc, _+_, _<_, _≤_}
+use Prim.Native.Nat.{ℕ, zero, suc, _+_}
 use native.Mathlib.Nat.{add-zero}
 use native.Mathlib.Omega.{arith}
 use borrow.Author.Tests.{ltb-true, not-false, lt-ltb}
-use lib.Dec.{ltb, eqb}
+use lib.Dec.{ltb}
 use lib.ListN.{length, getD, length-append}
-use Rattle.words.specs.Reply.{Reply, given, refused, _then_, refuse-if}
+use Rattle.words.specs.Reply.{given, refused}
 use Rattle.machine.specs.Machine.{Tree, Forest, node, ∅, _▸_}
 use Rattle.trees.specs.Preorder.{preorder, preorders, count, Ranked, Rankeds, Levels, Levelss}
-use Rattle.trees.specs.Shape.{Read, forestAt, nodeAt, treeAt, alone, readTree}
+use Rattle.trees.specs.Shape.{Read, forestAt, nodeAt, treeAt}
 use Rattle.trees.proofs.Replies.{given-refused, given-injective, refuse-given, then-given}
 
 -- What was read from place p on of bytes bs is a ranked tree of at most n levels, and the bytes are its preorder and what is left.
@@ -29,6 +29,7 @@ pub record IsForest (ar : List ℕ) (n k p : ℕ) (bs : List ℕ) (r : Read Fore
   pub is : bs ≡ preorders (r .value) ++ r .left
   pub ends : r .place ≡ p + length (preorders (r .value))
 
+-- Trees one after the other are read soundly if each is.
 forest-sound : (ar : List ℕ) (n : ℕ) → ((p : ℕ) (bs : List ℕ) (r : Read Tree) → treeAt n ar p bs ≡ given r → IsTree ar n p bs r)
     → (k p : ℕ) (bs : List ℕ) (r : Read Forest) → forestAt (treeAt n ar) k p bs ≡ given r → IsForest ar n k p bs r
 unfolding forestAt count Rankeds Levelss preorders

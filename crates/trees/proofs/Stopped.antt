@@ -1,16 +1,15 @@
 -- Bytes that begin a tree and go on with none are refused there. Assumes nothing.
-use mathlib.Core.Path.{_≡_, refl, sym, ap, subst, _∙_}
-use mathlib.Core.List.{List, [], _∷_, _++_, append-assoc}
-use Prim.Native.Nat.{ℕ, zero, suc, _+_, _<_, _≤_}
+use mathlib.Core.Path.{_≡_}
+use mathlib.Core.List.{List, _++_, append-assoc}
+use Prim.Native.Nat.{ℕ, zero, suc, _+_, _<_}
 use native.Mathlib.Nat.{add-zero}
 use native.Mathlib.Omega.{arith}
 use borrow.Author.Tests.{lt-ltb, le-ltb}
-use lib.Dec.{ltb}
 use lib.ListN.{length, getD, length-append}
-use Rattle.words.specs.Reply.{Reply, given, refused, _then_, refuse-if}
-use Rattle.machine.specs.Machine.{Tree, Forest, node, ∅, _▸_}
-use Rattle.trees.specs.Preorder.{preorder, preorders, count, Ranked, Rankeds, Levels, Levelss}
-use Rattle.trees.specs.Shape.{Read, forestAt, nodeAt, treeAt}
+use Rattle.words.specs.Reply.{refused}
+use Rattle.machine.specs.Machine.{Forest, ∅, _▸_}
+use Rattle.trees.specs.Preorder.{preorder, preorders, count, Rankeds, Levelss}
+use Rattle.trees.specs.Shape.{forestAt, treeAt}
 use Rattle.trees.proofs.Causes.{Begun, here, below}
 use Rattle.trees.proofs.Shape.{tree-complete}
 use Rattle.trees.proofs.Stops.{Why, ended, strange, under, Stops}

@@ -1,21 +1,21 @@
--- The reading of a tree is refused exactly where bytes that begin a tree are followed by nothing, by a symbol that is not in the list, or by one for which no level is left. Assumes nothing.
+-- The reading of a tree is refused only where bytes that begin a tree are followed by nothing, by a symbol that is not in the list, or by one for which no level is left. Assumes nothing.
 use mathlib.Core.Path.{_≡_, refl, sym, ap, subst, _∙_}
-use mathlib.Core.Bool.{Bool, true, false, not}
+use mathlib.Core.Bool.{not}
 use mathlib.Core.List.{List, [], _∷_, _++_, append-assoc}
-use mathlib.Core.Logic.{_⊎_, inl, inr, ⊎-elim}
+use mathlib.Core.Logic.{⊎-elim}
 use Prim.Native.Nat.{ℕ, zero, suc, _+_, _<_, _≤_}
 use native.Mathlib.Nat.{add-zero}
 use native.Mathlib.Omega.{arith}
-use borrow.Author.Tests.{ltb-true, ltb-false, not-true, not-false, lt-ltb, le-ltb}
+use borrow.Author.Tests.{ltb-true, ltb-false, not-true, not-false}
 use lib.Dec.{ltb}
 use lib.ListN.{length, getD, length-append}
-use Rattle.words.specs.Reply.{Reply, given, refused, _then_, refuse-if}
-use Rattle.machine.specs.Machine.{Tree, Forest, node, ∅, _▸_}
-use Rattle.trees.specs.Preorder.{preorder, preorders, count, Ranked, Rankeds, Levels, Levelss}
+use Rattle.words.specs.Reply.{refused}
+use Rattle.machine.specs.Machine.{Tree, Forest, ∅, _▸_}
+use Rattle.trees.specs.Preorder.{preorder, preorders, count, Rankeds, Levelss}
 use Rattle.trees.specs.Shape.{Read, forestAt, nodeAt, treeAt}
 use Rattle.trees.proofs.Causes.{Begun, here, below}
 use Rattle.trees.proofs.Replies.{given-refused, refused-injective, refuse-refused, then-refused}
-use Rattle.trees.proofs.Shape.{IsTree, tree-sound, tree-complete}
+use Rattle.trees.proofs.Shape.{IsTree, tree-sound}
 
 -- Why no tree begins with the bytes that are left, where m levels are left: x is the number of that.
 pub data Why (ar : List ℕ) (m : ℕ) (rest : List ℕ) (x : ℕ) : Type 0 where
@@ -69,6 +69,7 @@ unfolding count Rankeds Levelss preorders
 stops-first ar n k p bs x q s =
     record { ts = ∅; few = omega arith; ranks = tt; levels = tt; rest = bs; is = refl; stops = subst (λ (z : ℕ). Stops ar n z bs x q) (sym (add-zero p)) s }
 
+-- Refused trees stop if each refused tree does.
 forest-stops : (ar : List ℕ) (n : ℕ) → ((p : ℕ) (bs : List ℕ) (x q : ℕ) → treeAt n ar p bs ≡ refused x q → Stops ar n p bs x q)
     → (k p : ℕ) (bs : List ℕ) (x q : ℕ) → forestAt (treeAt n ar) k p bs ≡ refused x q → StopsIn ar n k p bs x q
 unfolding forestAt

@@ -3,30 +3,31 @@ use mathlib.Core.Path.{_≡_, refl, sym, ap, subst, _∙_}
 use mathlib.Core.Bool.{Bool, true, false, not, _||_, or-true}
 use mathlib.Core.List.{List, [], _∷_, _++_, append-nil}
 use mathlib.Core.Logic.{_⊎_, inl, inr, ⊎-elim, _↔_}
-use Prim.Native.Nat.{ℕ, zero, suc, _+_, _<_, _≤_}
+use Prim.Native.Nat.{ℕ, _+_, _<_, _≤_}
 use native.Mathlib.Omega.{arith}
 use borrow.Author.Tests.{ltb-true, ltb-false, eqb-true, eqb-false, not-false, lt-ltb, le-ltb, ne-eqb, eq-eqb}
 use lib.Dec.{ltb, eqb}
 use lib.ListN.{length}
-use Rattle.words.specs.Reply.{Reply, given, refused, _then_, refuse-if}
+use Rattle.words.specs.Reply.{given, _then_}
 use Rattle.machine.specs.Machine.{Tree}
 use Rattle.trees.specs.Preorder.{preorder, Ranked, Levels}
 use Rattle.trees.specs.Shape.{Read, treeAt, alone, readTree, treeMost, depthMost}
 use Rattle.trees.proofs.Preorder.{preorder-some}
 use Rattle.trees.proofs.Causes.{Sized}
 use Rattle.trees.proofs.Replies.{given-injective, refuse-given, then-given}
-use Rattle.trees.proofs.Shape.{IsTree, tree-sound, tree-complete}
+use Rattle.trees.proofs.Shape.{tree-sound, tree-complete}
 
 -- A list of length 0 is empty.
 no-length : (bs : List ℕ) → length bs ≡ 0 → bs ≡ []
 no-length [] e = refl
 no-length (b ∷ bs) e = absurd (omega arith)
 
--- Either test fails only if both do, and holds only if one does.
+-- Both of two tests fail if neither holds.
 both-fail : (a b : Bool) → (a || b) ≡ false → (a ≡ false) × (b ≡ false)
 both-fail true b e = let z : _≡_ {A = ℕ} 0 1 = cc in absurd (omega arith)
 both-fail false b e = (refl, e)
 
+-- One of two tests holds if either does.
 one-holds : (a b : Bool) → (a || b) ≡ true → (a ≡ true) ⊎ (b ≡ true)
 one-holds true b e = inl refl
 one-holds false b e = inr e
@@ -35,25 +36,27 @@ one-holds false b e = inr e
 abbrev pub wrongSize : List ℕ → Bool
 wrongSize bs = eqb (length bs) 0 || ltb treeMost (length bs)
 
--- The test of number 6 fails exactly for bytes that are neither none nor too many.
+-- The test of number 6 fails only for bytes that are neither none nor too many.
 pub size-right : (bs : List ℕ) → wrongSize bs ≡ false → Sized bs
 size-right bs e =
     let i = both-fail (eqb (length bs) 0) (ltb treeMost (length bs)) e in
     record { some = omega (arith, eqb-false (length bs) 0 (i .0)); most = ltb-false treeMost (length bs) (i .1) }
 
+-- And the other way round.
 pub right-size : (bs : List ℕ) → Sized bs → wrongSize bs ≡ false
 right-size bs s = rw (ne-eqb (length bs) 0 (λ z. omega arith), le-ltb treeMost (length bs) (s .most))
 
--- It holds exactly for bytes that are none or too many.
+-- It holds only for bytes that are none or too many.
 pub size-wrong : (bs : List ℕ) → wrongSize bs ≡ true → (length bs ≡ 0) ⊎ (treeMost < length bs)
 size-wrong bs e =
     ⊎-elim (λ k. inl (eqb-true (length bs) 0 k)) (λ k. inr (ltb-true treeMost (length bs) k)) (one-holds (eqb (length bs) 0) (ltb treeMost (length bs)) e)
 
+-- And the other way round.
 pub wrong-size : (bs : List ℕ) → (length bs ≡ 0) ⊎ (treeMost < length bs) → wrongSize bs ≡ true
 wrong-size bs (inl e) = rw (eq-eqb (length bs) 0 e)
 wrong-size bs (inr h) = rw (lt-ltb treeMost (length bs) h) (or-true (eqb (length bs) 0))
 
--- A tree is read alone exactly if nothing is left behind it.
+-- A tree is given alone only if nothing is left behind it.
 pub alone-given : (r : Read Tree) (t : Tree) → alone r ≡ given t → (r .value ≡ t) × (r .left ≡ [])
 alone-given r t e =
     let i = refuse-given (not (eqb (length (r .left)) 0)) 11 (r .place) (given (r .value)) t e in
