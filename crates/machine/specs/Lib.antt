@@ -1,6 +1,7 @@
--- Trees, tables and their words; earliest tables, their judgement, sameness, the form.
+-- Trees, tables and their words; earliest tables, their judgement, sameness, the form; twins.
 pub mod Machine
 pub mod Earliest
 pub mod Verdict
 pub mod Same
 pub mod Form
+pub mod Twins
