@@ -2,3 +2,5 @@
 pub mod Find
 pub mod Agreement
 pub mod Kept
+pub mod Twins
+pub mod Ranks
