@@ -1,0 +1,29 @@
+-- The spaces of a word.
+use mathlib.Core.Path.{_≡_, refl, sym, ap, _∙_}
+use mathlib.Core.Bool.{Bool, true, false}
+use mathlib.Core.List.{List, [], _∷_, _++_}
+use Prim.Native.Nat.{ℕ, zero, suc, _+_, _≤_}
+use native.Mathlib.Omega.{arith}
+use lib.Dec.{eqb}
+use lib.ListN.{length}
+use Rattle.words.specs.Word.{Word, spaces}
+
+-- Two words joined have the spaces of both.
+pub spaces-append : (u v : Word) → spaces (u ++ v) ≡ spaces u + spaces v
+unfolding spaces
+spaces-append [] v = omega arith
+spaces-append (x ∷ u) v = go (eqb x 0x20) (spaces-append u v)
+  where
+    go : (b : Bool) → spaces (u ++ v) ≡ spaces u + spaces v → elim b as (λ y. ℕ) [ true ↦ suc (spaces (u ++ v)) | false ↦ spaces (u ++ v) ] ≡ elim b as (λ y. ℕ) [ true ↦ suc (spaces u) | false ↦ spaces u ] + spaces v
+    go true h = omega arith
+    go false h = h
+
+-- A word has at most as many spaces as letters.
+pub spaces-length : (w : Word) → spaces w ≤ length w
+unfolding spaces
+spaces-length [] = omega arith
+spaces-length (x ∷ w) = go (eqb x 0x20) (spaces-length w)
+  where
+    go : (b : Bool) → spaces w ≤ length w → elim b as (λ y. ℕ) [ true ↦ suc (spaces w) | false ↦ spaces w ] ≤ length (x ∷ w)
+    go true h = omega arith
+    go false h = omega arith
