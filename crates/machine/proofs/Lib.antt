@@ -4,3 +4,5 @@ pub mod Agreement
 pub mod Kept
 pub mod Twins
 pub mod Ranks
+pub mod Judged
+pub mod Late
