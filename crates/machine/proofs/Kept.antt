@@ -54,9 +54,11 @@ module _ (M N : Table) where
     mutual
       unfolding word
 
+      -- On each tree related states have one word.
       kept-word : (t : Tree) (q r : ℕ) → R q r → word M q t ≡ word N r t
       kept-word (node f ts) q r h = applied (find (M .rows) q f) (find (N .rows) r f) (λ cs. words M ts cs) (λ ds. words N ts ds) (kept q r h f) (λ cs ds s. kept-words ts cs ds s)
 
+      -- On each list of trees matching rests have one word.
       kept-words : (ts : Forest) (cs ds : List Child) → Rests R cs ds → words M ts cs ≡ words N ts ds
       kept-words ∅ [] [] h = refl
       kept-words ∅ [] (d ∷ ds) h = absurd h

@@ -10,6 +10,7 @@ use Rattle.words.proofs.Ends.{front-no-prefix}
 use Rattle.machine.specs.Machine.{Tree, Forest, node, ∅, _▸_, Child, Rule, Table, find, word, words, Each}
 use Rattle.machine.specs.Earliest.{L, Tails, Reached, initial, below, Trimmed, E2, LeftStart}
 use Rattle.machine.proofs.Agreement.{find-lefts}
+use Rattle.machine.proofs.Word.{words-parts}
 
 -- What holds of each child with those right of it holds of a child of the rest, with some.
 pub each-child : (P : Child → List Child → Type 0) (cs : List Child) (c : Child) → List·Memᴰ c cs → Each P cs → (ds : List Child) × P c ds
@@ -20,17 +21,9 @@ each-child P (d ∷ cs) c m h = go (List·Memᴰ·cases-cons m) (λ k. each-chil
     go (inl e) k = (cs, subst (λ x. P x cs) (sym e) (h .0))
     go (inr i) k = k i
 
--- A word of the rest of a rule begins with a word of its first child's state.
-tails-first : (M : Table) (c : Child) (cs : List Child) (ts : Forest) (w : Word) → words M ts (c ∷ cs) ≡ some w → (x : Word) × (s : Word) × Holds (L M (c .state)) x × (w ≡ x ++ s)
-unfolding words
-tails-first M c cs ∅ w e = absurd (Option·none-ne-some w e)
-tails-first M c cs (t ▸ ts) w e =
-    let a = both-of (word M (c .state) t) (some (c .after) ⊕ words M ts cs) w e in
-    (a .0, a .1, (t, a .2), sym (a .4))
-
 -- A state has no common prefix if the rest of a rule from it on has none.
 tails-prefix : (M : Table) (c : Child) (cs : List Child) → NoPrefix (Tails M (c ∷ cs)) → NoPrefix (L M (c .state))
-tails-prefix M c cs = front-no-prefix (L M (c .state)) (Tails M (c ∷ cs)) (λ w h. tails-first M c cs (h .0) w (h .1))
+tails-prefix M c cs = front-no-prefix (L M (c .state)) (Tails M (c ∷ cs)) (λ w h. let a = words-parts M (h .0) c cs w (h .1) in (a .2, c .after ++ a .3, (a .0, a .5), a .7))
 
 -- The initial state has no common prefix if it has none before the last word of the initial rule.
 start-prefix : (M : Table) → LeftStart M → NoPrefix (L M (M .start))

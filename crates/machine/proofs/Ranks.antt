@@ -10,17 +10,13 @@ use Rattle.machine.specs.Machine.{Tree, Forest, node, ∅, _▸_, Child,
 use Rattle.machine.specs.Ranks.{count, Ranked, Rankeds, Fitting}
 use Rattle.machine.specs.Same.{Same, Agree}
 use Rattle.machine.proofs.Find.{find-every}
+use Rattle.machine.proofs.Word.{word-parts}
 
 -- The rules of a well-made table fit its own list of arities.
 pub well-made-fits : (M : Table) → WellMade M → Fitting (M .arities) M
 well-made-fits M W q f r e =
     let a = find-every (RowFits M) (M .rows) (W .rows) q f r e in
     (subst (λ x. x < length (M .arities)) (a .3) (a .1 .symbol), ap (λ x. length (x .rest)) (sym (a .4)) ∙ a .1 .arity ∙ ap (λ x. getD (M .arities) x 0) (a .3))
-
--- Where a rule writes a word, the rule is there and its rest has a word.
-pub applied : (o : Option Rule) (k : List Child → Option Word) (w : Word) → apply o k ≡ some w → (r : Rule) × (v : Word) × (o ≡ some r) × (k (r .rest) ≡ some v)
-applied none k w e = absurd (Option·none-ne-some w e)
-applied (some r) k w e = let v = right-of (r .first) (k (r .rest)) w e in (r, v .0, refl, v .1)
 
 module _ (arities : List ℕ) (M : Table) (fit : Fitting arities M) where
   mutual
@@ -29,7 +25,7 @@ module _ (arities : List ℕ) (M : Table) (fit : Fitting arities M) where
     -- A tree on which a state has a word is ranked.
     pub word-ranked : (t : Tree) (q : ℕ) (w : Word) → word M q t ≡ some w → Ranked arities t
     word-ranked (node f ts) q w e =
-        let a = applied (find (M .rows) q f) (λ cs. words M ts cs) w e in
+        let a = word-parts M q f ts w e in
         let b = words-ranked ts (a .0 .rest) (a .1) (a .3) in
         let c = fit q f (a .0) (a .2) in
         (c .0, b .0 ∙ c .1, b .1)
