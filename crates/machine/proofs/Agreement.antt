@@ -5,11 +5,11 @@ use mathlib.Core.Option.{Option, none, some, Option·some-injective, Option·som
 use Prim.Native.Nat.{ℕ, _<_}
 use Rattle.words.specs.Word.{Word, _⊕_, Holds, NoPrefix}
 use Rattle.words.proofs.Strip.{fix-left, fix-right, split}
-use Rattle.machine.specs.Machine.{Tree, Forest, node, ∅, _▸_, Child, Rule, Row, RowFits, Table, WellMade, find, apply, word, words, output, Each}
-use Rattle.machine.specs.Earliest.{L, Tails, Earliest, E2, Trimmed, LeftRule}
+use Rattle.machine.specs.Machine.{Forest, node, ∅, _▸_, Child, Rule, Table, WellMade, find, apply, word, words, Each}
+use Rattle.machine.specs.Earliest.{Tails, Earliest, E2, Trimmed}
 use Rattle.machine.specs.Same.{Same, Agree}
 use Rattle.machine.specs.Twins.{Rests, Rules, Match}
-use Rattle.machine.proofs.Find.{find-every, find-index}
+use Rattle.machine.proofs.Find.{find-fits, find-index}
 
 -- The child states of the rest of a rule are states of the table.
 abbrev pub States : Table → List Child → Type 0
@@ -21,9 +21,7 @@ Lefts M cs = Each (λ c ds. NoPrefix (Tails M (c ∷ ds))) cs
 
 -- The child states of a rule that is found are states of the table.
 pub find-states : (M : Table) → WellMade M → (q f : ℕ) (r : Rule) → find (M .rows) q f ≡ some r → States M (r .rest)
-find-states M W q f r e =
-    let a = find-every (RowFits M) (M .rows) (W .rows) q f r e in
-    subst (λ x. States M (x .rest)) (a .4) (a .1 .children)
+find-states M W q f r e = find-fits M W q f r e .children
 
 -- A rule that is found meets E2.
 pub find-lefts : (M : Table) → E2 M → (q f : ℕ) (r : Rule) → find (M .rows) q f ≡ some r → Lefts M (r .rest)

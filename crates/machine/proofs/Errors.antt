@@ -1,17 +1,17 @@
 -- Small tables against errors that look like sense. Symbols: g, e and h are 0, 1 and 2; letters: a, b and c are 97, 98 and 99.
 use mathlib.Core.Path.{_≡_, refl, sym, ap, ap₂, _∙_}
-use mathlib.Core.List.{List, [], _∷_, _++_, cons≢nil, head-eq-of-cons-eq, List·Memᴰ·head, List·Memᴰ·tail}
+use mathlib.Core.List.{[], _∷_, _++_, cons≢nil, head-eq-of-cons-eq, List·Memᴰ·head, List·Memᴰ·tail}
 use mathlib.Core.Logic.{_⊎_, inl, inr}
-use mathlib.Core.Option.{Option, some}
+use mathlib.Core.Option.{some}
 use Prim.Native.Nat.{ℕ, _<_}
 use native.Mathlib.Omega.{arith}
 use Rattle.words.specs.Word.{Word, _⊕_, Holds, NoPrefix, NoSuffix}
 use Rattle.words.proofs.Cut.{left-of}
 use Rattle.words.proofs.Ends.{empty-no-prefix, empty-no-suffix, heads-no-prefix, head-prefix}
-use Rattle.machine.specs.Machine.{Tree, Forest, node, ∅, _▸_, Row, Table, find, word, words}
+use Rattle.machine.specs.Machine.{Tree, Forest, node, ∅, _▸_, Rule, Table, find, word, words}
 use Rattle.machine.specs.Earliest.{L, Tails, HasWord, Reached, initial, below, LeftStart, LeftRule}
-use Rattle.machine.specs.Verdict.{FailsAt, late, earliest, Judged}
-use Rattle.machine.proofs.Find.{every-at, find-every}
+use Rattle.machine.specs.Verdict.{late, earliest, Judged}
+use Rattle.machine.proofs.Find.{every-at, find-holds}
 use Rattle.machine.proofs.Word.{word-parts, words-nil, words-parts}
 use Rattle.machine.proofs.Small.{row, to, firsts, one-word}
 
@@ -26,11 +26,11 @@ unfolding word find
 star-empty = (node 1 ∅, refl)
 
 -- A rule that writes nothing and has no children, or begins with a.
-abbrev Leads : Row → Type 0
-Leads r = ((r .rule .first ≡ []) × (r .rule .rest ≡ [])) ⊎ ((u : Word) × (r .rule .first ≡ 97 ∷ u))
+abbrev Leads : Rule → Type 0
+Leads r = ((r .first ≡ []) × (r .rest ≡ [])) ⊎ ((u : Word) × (r .first ≡ 97 ∷ u))
 
 -- A word of such a rule that is not empty begins with a.
-leads : (r : Row) → Leads r → (ts : Forest) (v w : Word) (b : ℕ) → words star ts (r .rule .rest) ≡ some v → b ∷ w ≡ r .rule .first ++ v → b ≡ 97
+leads : (r : Rule) → Leads r → (ts : Forest) (v w : Word) (b : ℕ) → words star ts (r .rest) ≡ some v → b ∷ w ≡ r .first ++ v → b ≡ 97
 leads r (inl k) ts v w b e i =
     let n = words-nil star ts v (ap (words star ts) (sym (k .1)) ∙ e) in
     absurd (cons≢nil (i ∙ ap₂ _++_ (k .0) (n .1)))
@@ -40,8 +40,8 @@ leads r (inr k) ts v w b e i = head-eq-of-cons-eq (i ∙ ap (λ x. x ++ v) (k .1
 pub star-first : (t : Tree) (b : ℕ) (w : Word) → word star 0 t ≡ some (b ∷ w) → b ≡ 97
 star-first (node f ts) b w e =
     let a = word-parts star 0 f ts (b ∷ w) e in
-    let k = find-every Leads (star .rows) (inr ([], refl), (inl (refl, refl), tt)) 0 f (a .0) (a .2) in
-    leads (k .0) (k .1) ts (a .1) w b (ap (λ x. words star ts (x .rest)) (k .4) ∙ a .3) (a .4 ∙ ap (λ x. x .first ++ a .1) (sym (k .4)))
+    let k = find-holds (λ r. Leads (r .rule)) (star .rows) (inr ([], refl), (inl (refl, refl), tt)) 0 f (a .0) (a .2) in
+    leads (a .0) k ts (a .1) w b (a .3) (a .4)
 
 -- And still the table is earliest.
 pub star-judged : Judged star earliest

@@ -2,14 +2,14 @@
 use mathlib.Core.Path.{_≡_, refl, sym, ap, _∙_, subst}
 use mathlib.Core.Bool.{Bool, true, false, _&&_}
 use mathlib.Core.List.{List, [], _∷_}
-use mathlib.Core.Logic.{_⊎_, inl, inr, ⊎-elim}
+use mathlib.Core.Logic.{inl, inr, ⊎-elim}
 use mathlib.Core.Option.{Option, none, some, Option·some-injective, Option·none-ne-some}
 use Prim.Native.Nat.{ℕ, zero, suc, _<_}
 use native.Mathlib.Omega.{arith}
 use borrow.Author.Tests.{eqb-true, eqb-false}
 use lib.Dec.{eqb}
 use lib.ListN.{length, getElem?}
-use Rattle.machine.specs.Machine.{Rule, Row, find, Every, Before, Rising}
+use Rattle.machine.specs.Machine.{Rule, Row, Table, RowFits, WellMade, find, Every, Before, Rising}
 
 -- ---- rows by index
 -- What holds of every row holds of the row at an index.
@@ -59,6 +59,20 @@ pub find-every : (P : Row → Type 0) (rows : List Row) → Every P rows → (q 
 find-every P rows h q f r e =
     let a = find-index rows q f r e in
     (a .row, every-at P rows h (a .index) (a .row) (a .there), a .state, a .symbol, a .rule)
+
+-- A row of its parts.
+row-parts : (row : Row) (q f : ℕ) (r : Rule) → row .state ≡ q → row .symbol ≡ f → row .rule ≡ r → row ≡ record { state = q; symbol = f; rule = r }
+row-parts row q f r a b c = λ i. record { state = a i; symbol = b i; rule = c i }
+
+-- What holds of every row holds of every rule that is found, with its state and symbol.
+pub find-holds : (P : Row → Type 0) (rows : List Row) → Every P rows → (q f : ℕ) (r : Rule) → find rows q f ≡ some r → P (record { state = q; symbol = f; rule = r })
+find-holds P rows h q f r e =
+    let a = find-every P rows h q f r e in
+    subst P (row-parts (a .0) q f r (a .2) (a .3) (a .4)) (a .1)
+
+-- A rule that is found in a well-made table fits it, with its state and symbol.
+pub find-fits : (M : Table) → WellMade M → (q f : ℕ) (r : Rule) → find (M .rows) q f ≡ some r → RowFits M (record { state = q; symbol = f; rule = r })
+find-fits M W = find-holds (RowFits M) (M .rows) (W .rows)
 
 -- ---- rising rows
 -- A row that stands before another differs from it in state or symbol.
@@ -113,6 +127,12 @@ find-some (s ∷ rs) q f (suc i) row e p p′ = go (eqb (s .state) q && eqb (s .
     go : (b : Bool) → (r : Rule) × (find rs q f ≡ some r) → (r : Rule) × (elim b as (λ x. Option Rule) [ true ↦ some (s .rule) | false ↦ find rs q f ] ≡ some r)
     go true h = (s .rule, refl)
     go false h = h
+
+-- Where no rule is found, no row is for the state and the symbol.
+pub find-none : (rows : List Row) (q f i : ℕ) (row : Row) → find rows q f ≡ none → getElem? rows i ≡ some row → row .state ≡ q → row .symbol ≡ f → ⊥
+find-none rows q f i row n e p p′ =
+    let a = find-some rows q f i row e p p′ in
+    Option·none-ne-some (a .0) (sym n ∙ a .1)
 
 -- In rising rows the row at an index is what is found for its state and symbol.
 pub find-row : (rows : List Row) → Rising rows → (i : ℕ) (row : Row) → getElem? rows i ≡ some row → find rows (row .state) (row .symbol) ≡ some (row .rule)

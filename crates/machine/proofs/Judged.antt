@@ -1,14 +1,12 @@
 -- The judgement of a table is settled: two verdicts are equal, and a table is judged earliest exactly when it is earliest.
 use mathlib.Core.Path.{_≡_, refl, sym, ap, _∙_}
 use mathlib.Core.List.{List, [], _∷_}
-use mathlib.Core.Logic.{_⊎_, inl, inr, _↔_}
-use mathlib.Core.Option.{some}
-use Prim.Native.Nat.{ℕ, zero, suc, _<_}
+use mathlib.Core.Logic.{inl, inr, _↔_}
+use Prim.Native.Nat.{ℕ, _<_}
 use native.Mathlib.Decide.{decLt}
 use native.Mathlib.Omega.{arith}
-use lib.ListN.{length, getElem?}
-use Rattle.machine.specs.Machine.{Row, Table}
-use Rattle.machine.specs.Earliest.{Trimmed, E1, E2, LeftStart, LeftRule, Earliest}
+use Rattle.machine.specs.Machine.{Table}
+use Rattle.machine.specs.Earliest.{Earliest}
 use Rattle.machine.specs.Verdict.{Condition, conditions, Verdict, earliest, late, Met, FailsAt, JudgedBy, Judged}
 use Rattle.machine.proofs.Find.{index-below}
 

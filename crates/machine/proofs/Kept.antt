@@ -3,10 +3,10 @@ use mathlib.Core.Path.{_≡_, refl}
 use mathlib.Core.List.{List, [], _∷_}
 use mathlib.Core.Option.{Option, none, some}
 use Prim.Native.Nat.{ℕ, zero, suc}
-use Rattle.words.specs.Word.{Word, _⊕_}
+use Rattle.words.specs.Word.{Word}
 use Rattle.machine.specs.Machine.{Tree, Forest, node, ∅, _▸_, Child, Rule, Table, find, apply, word, words}
 use Rattle.machine.specs.Same.{Same}
-use Rattle.machine.specs.Twins.{Rests, Rules, Match, Kept, Twin}
+use Rattle.machine.specs.Twins.{Rests, Rules, Kept, Twin}
 
 -- ---- relations on states, carried over to rules
 -- Rests that match under a relation match under a wider one.

@@ -1,13 +1,13 @@
 -- In a trimmed table E2 implies the prefix half of E1. The judgement asks for both because the paper does.
-use mathlib.Core.Path.{_≡_, refl, sym, ap, _∙_, subst}
+use mathlib.Core.Path.{_≡_, sym, subst}
 use mathlib.Core.List.{List, [], _∷_, _++_, List·Memᴰ, List·Memᴰ·not-nil, List·Memᴰ·cases-cons}
 use mathlib.Core.Logic.{_⊎_, inl, inr}
-use mathlib.Core.Option.{Option, some, Option·none-ne-some}
+use mathlib.Core.Option.{some}
 use Prim.Native.Nat.{ℕ, _<_}
-use Rattle.words.specs.Word.{Word, _⊕_, Holds, NoPrefix}
-use Rattle.words.proofs.Cut.{left-of, both-of}
+use Rattle.words.specs.Word.{_⊕_, NoPrefix}
+use Rattle.words.proofs.Cut.{left-of}
 use Rattle.words.proofs.Ends.{front-no-prefix}
-use Rattle.machine.specs.Machine.{Tree, Forest, node, ∅, _▸_, Child, Rule, Table, find, word, words, Each}
+use Rattle.machine.specs.Machine.{Child, Table, Each}
 use Rattle.machine.specs.Earliest.{L, Tails, Reached, initial, below, Trimmed, E2, LeftStart}
 use Rattle.machine.proofs.Agreement.{find-lefts}
 use Rattle.machine.proofs.Word.{words-parts}

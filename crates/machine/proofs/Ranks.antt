@@ -2,21 +2,21 @@
 use mathlib.Core.Path.{_≡_, refl, sym, ap, _∙_, subst}
 use mathlib.Core.List.{List, [], _∷_}
 use mathlib.Core.Option.{Option, none, some, Option·none-ne-some}
-use Prim.Native.Nat.{ℕ, zero, suc, _<_}
-use lib.ListN.{length, getD}
+use Prim.Native.Nat.{ℕ, suc}
+use lib.ListN.{length}
 use Rattle.words.specs.Word.{Word, _⊕_}
 use Rattle.words.proofs.Cut.{right-of, both-of}
-use Rattle.machine.specs.Machine.{Tree, Forest, node, ∅, _▸_, Child, Rule, Row, RowFits, Table, WellMade, find, apply, word, words, output}
+use Rattle.machine.specs.Machine.{Tree, Forest, node, ∅, _▸_, Child, Table, WellMade, word, words, output}
 use Rattle.machine.specs.Ranks.{count, Ranked, Rankeds, Fitting}
 use Rattle.machine.specs.Same.{Same, Agree}
-use Rattle.machine.proofs.Find.{find-every}
+use Rattle.machine.proofs.Find.{find-fits}
 use Rattle.machine.proofs.Word.{word-parts}
 
 -- The rules of a well-made table fit its own list of arities.
 pub well-made-fits : (M : Table) → WellMade M → Fitting (M .arities) M
 well-made-fits M W q f r e =
-    let a = find-every (RowFits M) (M .rows) (W .rows) q f r e in
-    (subst (λ x. x < length (M .arities)) (a .3) (a .1 .symbol), ap (λ x. length (x .rest)) (sym (a .4)) ∙ a .1 .arity ∙ ap (λ x. getD (M .arities) x 0) (a .3))
+    let a = find-fits M W q f r e in
+    (a .symbol, a .arity)
 
 module _ (arities : List ℕ) (M : Table) (fit : Fitting arities M) where
   mutual

@@ -2,15 +2,15 @@
 -- Symbols: f and e are 0 and 1; the letters abc are 97, 98 and 99.
 use mathlib.Core.Path.{_≡_, refl, sym, ap, _∙_, subst}
 use mathlib.Core.Bool.{Bool, true, false}
-use mathlib.Core.List.{List, [], _∷_, _++_, append-nil, cons≢nil}
+use mathlib.Core.List.{[], _∷_, _++_, append-nil, cons≢nil}
 use mathlib.Core.Logic.{inl, inr}
 use mathlib.Core.Option.{Option, none, some, Option·some-injective}
-use Prim.Native.Nat.{ℕ, _<_}
+use Prim.Native.Nat.{ℕ}
 use native.Mathlib.Omega.{arith}
 use lib.Dec.{eqb}
 use Rattle.words.specs.Word.{Word, _⊕_, Holds, NoPrefix, NoSuffix}
 use Rattle.words.proofs.Ends.{empty-no-prefix, empty-no-suffix, head-prefix}
-use Rattle.machine.specs.Machine.{Tree, Forest, node, ∅, _▸_, Rule, Row, Table, find, apply, word, words}
+use Rattle.machine.specs.Machine.{Tree, Forest, node, ∅, _▸_, Rule, Table, find, apply, word, words}
 use Rattle.machine.specs.Earliest.{L, Tails, HasWord, Reached, initial, LeftRule}
 use Rattle.machine.specs.Verdict.{late, earliest, Judged}
 use Rattle.machine.specs.Same.{Same}

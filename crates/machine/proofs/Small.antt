@@ -1,12 +1,12 @@
 -- For small tables written out: their rows, their states one by one, and states with one word.
 use mathlib.Core.Path.{_≡_, refl, sym, ap, ap₂, _∙_}
-use mathlib.Core.List.{List, [], _∷_, _++_, append-nil}
+use mathlib.Core.List.{List, [], _++_, append-nil}
 use mathlib.Core.Option.{some}
 use Prim.Native.Nat.{ℕ, zero, suc, _<_}
 use native.Mathlib.Omega.{arith}
 use Rattle.words.specs.Word.{Word}
 use Rattle.machine.specs.Machine.{Tree, node, Child, Row, Table, word, words, Every}
-use Rattle.machine.proofs.Find.{find-every}
+use Rattle.machine.proofs.Find.{find-holds}
 use Rattle.machine.proofs.Word.{word-parts, words-nil}
 
 -- A row by its state, its symbol, its first word and the rest of its rule.
@@ -32,7 +32,6 @@ firsts P (suc n) h (suc q) l = firsts (λ r. P (suc r)) n (h .1) q (omega arith)
 pub one-word : (M : Table) (q : ℕ) (u : Word) → Every (λ r. r .state ≡ q → (r .rule .first ≡ u) × (r .rule .rest ≡ [])) (M .rows) → (t : Tree) (w : Word) → word M q t ≡ some w → w ≡ u
 one-word M q u h (node f ts) w e =
     let a = word-parts M q f ts w e in
-    let b = find-every (λ r. r .state ≡ q → (r .rule .first ≡ u) × (r .rule .rest ≡ [])) (M .rows) h q f (a .0) (a .2) in
-    let k = b .1 (b .2) in
-    let v = words-nil M ts (a .1) (ap (words M ts) (sym (k .1) ∙ ap (λ x. x .rest) (b .4)) ∙ a .3) in
-    a .4 ∙ ap₂ _++_ (ap (λ x. x .first) (sym (b .4)) ∙ k .0) (v .1) ∙ append-nil u
+    let k = find-holds (λ r. r .state ≡ q → (r .rule .first ≡ u) × (r .rule .rest ≡ [])) (M .rows) h q f (a .0) (a .2) refl in
+    let v = words-nil M ts (a .1) (ap (words M ts) (sym (k .1)) ∙ a .3) in
+    a .4 ∙ ap₂ _++_ (k .0) (v .1) ∙ append-nil u

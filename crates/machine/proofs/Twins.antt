@@ -7,7 +7,7 @@ use Prim.Native.Nat.{ℕ, zero, suc, _<_}
 use Rattle.machine.specs.Machine.{Child, Rule, Table, WellMade, find}
 use Rattle.machine.specs.Earliest.{Earliest}
 use Rattle.machine.specs.Same.{Same}
-use Rattle.machine.specs.Twins.{Rests, Rules, Match, Kept, Twin}
+use Rattle.machine.specs.Twins.{Rests, Rules, Match, Twin}
 use Rattle.machine.proofs.Agreement.{States, find-states, agree}
 use Rattle.machine.proofs.Kept.{rules-map, kept-same, kept-twin, twin-same}
 

@@ -1,9 +1,8 @@
 -- Words joined: where one word can be cut in two ways, and what can be cancelled.
 use mathlib.Core.Path.{_≡_, refl, sym, ap}
 use mathlib.Core.Logic.{_⊎_, inl, inr, ⊎-elim}
-use mathlib.Core.List.{List, [], _∷_, _++_, append-cancel-left, append-cancel-right, tail-eq-of-cons-eq, head-eq-of-cons-eq}
+use mathlib.Core.List.{[], _∷_, _++_, append-cancel-left, append-cancel-right, tail-eq-of-cons-eq, head-eq-of-cons-eq}
 use mathlib.Core.Option.{Option, none, some, Option·some-injective, Option·none-ne-some}
-use Prim.Native.Nat.{ℕ}
 use Rattle.words.specs.Word.{Word, _⊕_}
 
 -- Levi's lemma: of two ways to cut one word, one cuts later.

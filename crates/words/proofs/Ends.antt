@@ -1,7 +1,7 @@
 -- When a set has no common prefix or suffix: it holds the empty word, or two words that begin or end with different letters. And when it has one.
 use mathlib.Core.Path.{_≡_, refl, sym, ap, _∙_, subst}
 use mathlib.Core.Logic.{_≢_}
-use mathlib.Core.List.{List, [], _∷_, _++_, append-assoc, reverse, reverse-append, nil≢cons, cons≢nil, head-eq-of-cons-eq}
+use mathlib.Core.List.{[], _∷_, _++_, append-assoc, reverse, reverse-append, nil≢cons, cons≢nil, head-eq-of-cons-eq}
 use mathlib.Core.Option.{Option}
 use Prim.Native.Nat.{ℕ}
 use Rattle.words.specs.Word.{Word, Holds, NoPrefix, NoSuffix}

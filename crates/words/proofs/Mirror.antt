@@ -1,9 +1,8 @@
 -- A set of words read backwards: its common prefixes are the common suffixes of the set.
 use mathlib.Core.Path.{_≡_, refl, sym, ap, _∙_}
 use mathlib.Core.Logic.{_↔_}
-use mathlib.Core.List.{List, [], _∷_, _++_, reverse, reverse-append, reverse-reverse}
+use mathlib.Core.List.{[], _++_, reverse, reverse-append, reverse-reverse}
 use mathlib.Core.Option.{Option, none, some, Option·some-injective, Option·none-ne-some}
-use Prim.Native.Nat.{ℕ}
 use Rattle.words.specs.Word.{Word, _⊕_, Holds, NoPrefix, NoSuffix}
 
 -- An answer's word read backwards.

@@ -1,9 +1,8 @@
 -- Sets of words that are equal behind or before words: the words are equal, and so are the sets.
-use mathlib.Core.Path.{_≡_, refl, sym, ap, _∙_}
+use mathlib.Core.Path.{_≡_, sym, ap, _∙_}
 use mathlib.Core.Logic.{⊎-elim}
-use mathlib.Core.List.{List, [], _∷_, _++_, append-assoc, append-nil, append-cancel-left, append-cancel-right}
-use mathlib.Core.Option.{Option, none, some}
-use Prim.Native.Nat.{ℕ}
+use mathlib.Core.List.{[], _++_, append-assoc, append-nil, append-cancel-left, append-cancel-right}
+use mathlib.Core.Option.{Option, some}
 use Rattle.words.specs.Word.{Word, _⊕_, Holds, NoPrefix, NoSuffix}
 use Rattle.words.proofs.Cut.{levi, right-of, left-of, both-of, cancel-left, cancel-right}
 
