@@ -1,5 +1,6 @@
 -- The laws of the machine:
---   Find       every-at, index-below, index-row: rows by index. find-index, find-every, find-holds, find-fits: the row of a rule that is found. find-some, find-none: whether one is found. find-row, rising-one: rising rows have one for a state and a symbol
+--   Find       every-at, index-below, index-row: rows by index. find-index, find-every, find-holds, find-fits: the row of a rule that is found
+--              find-some, find-none: whether one is found. find-row, rising-one: rising rows have one for a state and a symbol
 --   Word       word-parts, words-parts, words-nil; word-join, words-join: the word of a tree taken apart, and put together
 --   Agreement  agree, agree-start: earliest tables with the same words have the same rules (lemma 1 of document 001)
 --   Kept       kept-same, kept-twin, twin-same: a relation that rules keep relates only states with the same words

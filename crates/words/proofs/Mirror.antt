@@ -21,7 +21,7 @@ backwards-join none (some v) = refl
 backwards-join (some u) none = refl
 backwards-join (some u) (some v) = ap some (reverse-append u v)
 
--- A word that backwards has a first part p and a second part s has the second part of s.
+-- A word that read backwards is p and then s is s backwards and then p backwards.
 turned : (w p s : Word) → reverse w ≡ p ++ s → w ≡ reverse s ++ reverse p
 turned w p s e = sym (reverse-reverse w) ∙ ap reverse e ∙ reverse-append p s
 
