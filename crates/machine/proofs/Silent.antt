@@ -48,7 +48,7 @@ silent-empty : (q : ℕ) → q < 3 → Holds (L silent q) []
 unfolding word find
 silent-empty = firsts (λ q. Holds (L silent q) []) 3 ((node 0 (node 1 ∅ ▸ node 1 ∅ ▸ ∅), refl), ((node 1 ∅, refl), ((node 1 ∅, refl), tt)))
 
--- The table is earliest, so its form keeps both.
+-- And the table is earliest.
 pub silent-judged : Judged silent earliest
 unfolding word find
 silent-judged =
