@@ -8,9 +8,10 @@ use native.Mathlib.Omega.{arith}
 use lib.ListN.{length}
 use Rattle.words.specs.Word.{Word, _⊕_}
 use Rattle.machine.specs.Machine.{Tree, Forest, node, ∅, _▸_, Child, Rule, Table, find, apply, word, words, WellMade}
-use Rattle.trees.specs.Preorder.{preorder, count, Ranked, Rankeds}
+use Rattle.machine.specs.Ranks.{count, Ranked, Rankeds}
+use Rattle.trees.specs.Preorder.{preorder}
 use Rattle.trees.specs.Lacking.{orElse, ruleOr, lacks, lackss}
-use Rattle.trees.proofs.Found.{found-rest}
+use Rattle.machine.proofs.Find.{find-fits}
 
 -- If a place lacks its rule there is no word.
 abbrev Silent : Option ℕ → Option Word → Type 0
@@ -78,12 +79,12 @@ speaks-rule (some r) p f g h = speaks-first (g (r .rest)) (f (r .rest)) (r .firs
 module _ (M : Table) (made : WellMade M) where
   -- So it is of a ranked tree, and of ranked trees with as many children of a rule.
   mutual
-    unfolding word words lacks lackss Ranked Rankeds count
+    unfolding word words lacks lackss
 
     tree-speaks : (t : Tree) (q p : ℕ) → Ranked (M .arities) t → Speaks (lacks M q t p) (word M q t)
     tree-speaks (node f ts) q p h =
         speaks-rule (find (M .rows) q f) p (λ cs. words M ts cs) (λ cs. lackss M ts cs (suc p))
-        (λ r e. forest-speaks ts (r .rest) (suc p) (h .1 ∙ sym (found-rest M made q f r e)) (h .2))
+        (λ r e. forest-speaks ts (r .rest) (suc p) (h .1 ∙ sym (find-fits M made q f r e .arity)) (h .2))
 
     forest-speaks : (ts : Forest) (cs : List Child) (p : ℕ) → count ts ≡ length cs → Rankeds (M .arities) ts → Speaks (lackss M ts cs p) (words M ts cs)
     forest-speaks ∅ [] p k h = ([], refl)

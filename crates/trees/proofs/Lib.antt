@@ -2,11 +2,9 @@
 pub mod Preorder
 pub mod Replies
 pub mod Shape
-pub mod Causes
 pub mod Whole
 pub mod Stops
 pub mod Stopped
 pub mod Refusals
-pub mod Found
 pub mod Lacking
 pub mod Places

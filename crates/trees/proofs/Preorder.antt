@@ -5,7 +5,8 @@ use Prim.Native.Nat.{ℕ, _<_}
 use native.Mathlib.Omega.{arith}
 use lib.ListN.{length, getD}
 use Rattle.machine.specs.Machine.{Tree, Forest, node, ∅, _▸_}
-use Rattle.trees.specs.Preorder.{preorder, preorders, count, Ranked, Rankeds}
+use Rattle.machine.specs.Ranks.{count, Ranked, Rankeds}
+use Rattle.trees.specs.Preorder.{preorder, preorders}
 
 -- The preorder of a tree has a symbol.
 pub preorder-some : (t : Tree) → 0 < length (preorder t)
@@ -14,7 +15,7 @@ preorder-some (node f ts) = omega arith
 
 -- Two ranked trees of which each begins the same bytes are one tree, and so are two rows of as many ranked trees.
 mutual
-  unfolding preorder preorders count Ranked Rankeds
+  unfolding preorder preorders
 
   pub preorder-unique : (t t′ : Tree) (ar rest rest′ : List ℕ) → Ranked ar t → Ranked ar t′ → preorder t ++ rest ≡ preorder t′ ++ rest′
       → (t ≡ t′) × (rest ≡ rest′)

@@ -10,7 +10,8 @@ use lib.Dec.{ltb}
 use lib.ListN.{length, getD, length-append}
 use Rattle.words.specs.Reply.{given, refused}
 use Rattle.machine.specs.Machine.{Tree, Forest, node, ∅, _▸_}
-use Rattle.trees.specs.Preorder.{preorder, preorders, count, Ranked, Rankeds, Levels, Levelss}
+use Rattle.machine.specs.Ranks.{count, Ranked, Rankeds}
+use Rattle.trees.specs.Preorder.{preorder, preorders, Levels, Levelss}
 use Rattle.trees.specs.Shape.{Read, forestAt, nodeAt, treeAt}
 use Rattle.trees.proofs.Replies.{given-refused, given-injective, refuse-given, then-given}
 
@@ -32,7 +33,7 @@ pub record IsForest (ar : List ℕ) (n k p : ℕ) (bs : List ℕ) (r : Read Fore
 -- Trees one after the other are read soundly if each is.
 forest-sound : (ar : List ℕ) (n : ℕ) → ((p : ℕ) (bs : List ℕ) (r : Read Tree) → treeAt n ar p bs ≡ given r → IsTree ar n p bs r)
     → (k p : ℕ) (bs : List ℕ) (r : Read Forest) → forestAt (treeAt n ar) k p bs ≡ given r → IsForest ar n k p bs r
-unfolding forestAt count Rankeds Levelss preorders
+unfolding forestAt Levelss preorders
 forest-sound ar n one zero p bs r e =
     subst (λ (x : Read Forest). IsForest ar n zero p bs x) (given-injective _ r e)
     (record { many = refl; ranks = tt; levels = tt; is = refl; ends = sym (add-zero p) })
@@ -52,7 +53,7 @@ forest-sound ar n one (suc k) p bs r e =
 
 -- Soundness: what is read is a ranked tree of at most n levels, and the bytes are its preorder and what is left.
 pub tree-sound : (n : ℕ) (ar : List ℕ) (p : ℕ) (bs : List ℕ) (r : Read Tree) → treeAt n ar p bs ≡ given r → IsTree ar n p bs r
-unfolding treeAt Ranked Levels preorder
+unfolding treeAt Levels preorder
 tree-sound zero ar p [] r e = absurd (given-refused r 8 p (sym e))
 tree-sound zero ar p (f ∷ bs) r e = absurd (given-refused r 10 p (sym (refuse-given (not (ltb f (length ar))) 7 p (refused 10 p) r e .1)))
 tree-sound (suc n) ar p [] r e = absurd (given-refused r 8 p (sym e))
@@ -70,7 +71,7 @@ tree-sound (suc n) ar p (f ∷ bs) r e =
 
 -- Completeness: the preorder of a ranked tree of at most n levels is read as that tree, and what stands behind it is left.
 mutual
-  unfolding preorder preorders count Ranked Rankeds Levels Levelss treeAt forestAt
+  unfolding preorder preorders Levels Levelss treeAt forestAt
 
   pub tree-complete : (t : Tree) (n : ℕ) (ar : List ℕ) (p : ℕ) (rest : List ℕ) → Ranked ar t → Levels t n
       → treeAt n ar p (preorder t ++ rest) ≡ given (record { value = t; place = p + length (preorder t); left = rest })

@@ -8,9 +8,10 @@ use borrow.Author.Tests.{lt-ltb, le-ltb}
 use lib.ListN.{length, getD, length-append}
 use Rattle.words.specs.Reply.{refused}
 use Rattle.machine.specs.Machine.{Forest, ∅, _▸_}
-use Rattle.trees.specs.Preorder.{preorder, preorders, count, Rankeds, Levelss}
+use Rattle.machine.specs.Ranks.{count, Rankeds}
+use Rattle.trees.specs.Preorder.{preorder, preorders, Levelss}
 use Rattle.trees.specs.Shape.{forestAt, treeAt}
-use Rattle.trees.proofs.Causes.{Begun, here, below}
+use Rattle.trees.specs.Causes.{Begun, here, below}
 use Rattle.trees.proofs.Shape.{tree-complete}
 use Rattle.trees.proofs.Stops.{Why, ended, strange, under, Stops}
 
@@ -27,7 +28,7 @@ nothing-read (suc m) ar p rest x (under i f bs j h k) = absurd (omega arith)
 -- Behind whole trees, fewer than k, the refusal of the next is that of k trees.
 forest-refused : (ts : Forest) (n k : ℕ) (ar : List ℕ) (p : ℕ) (rest : List ℕ) (x q : ℕ) → count ts < k → Rankeds ar ts → Levelss ts n
     → treeAt n ar (p + length (preorders ts)) rest ≡ refused x q → forestAt (treeAt n ar) k p (preorders ts ++ rest) ≡ refused x q
-unfolding forestAt count Rankeds Levelss preorders
+unfolding forestAt Levelss preorders
 forest-refused ts n zero ar p rest x q c h l e = absurd (omega arith)
 forest-refused ∅ n (suc k) ar p rest x q c h l e = let i : treeAt n ar p rest ≡ refused x q = rw add-zero at e in rw i
 forest-refused (t ▸ ts) n (suc k) ar p rest x q c h l e =

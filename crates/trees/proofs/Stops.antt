@@ -11,9 +11,10 @@ use lib.Dec.{ltb}
 use lib.ListN.{length, getD, length-append}
 use Rattle.words.specs.Reply.{refused}
 use Rattle.machine.specs.Machine.{Tree, Forest, ∅, _▸_}
-use Rattle.trees.specs.Preorder.{preorder, preorders, count, Rankeds, Levelss}
+use Rattle.machine.specs.Ranks.{count, Rankeds}
+use Rattle.trees.specs.Preorder.{preorder, preorders, Levelss}
 use Rattle.trees.specs.Shape.{Read, forestAt, nodeAt, treeAt}
-use Rattle.trees.proofs.Causes.{Begun, here, below}
+use Rattle.trees.specs.Causes.{Begun, here, below}
 use Rattle.trees.proofs.Replies.{given-refused, refused-injective, refuse-refused, then-refused}
 use Rattle.trees.proofs.Shape.{IsTree, tree-sound}
 
@@ -50,7 +51,7 @@ at-once ar n p bs x y q w i j =
 
 -- A whole tree, and then trees of which one stops.
 stops-later : (ar : List ℕ) (n k p : ℕ) (bs : List ℕ) (x q : ℕ) (r : Read Tree) → IsTree ar n p bs r → StopsIn ar n k (r .place) (r .left) x q → StopsIn ar n (suc k) p bs x q
-unfolding count Rankeds Levelss preorders
+unfolding Levelss preorders
 stops-later ar n k p bs x q r a b =
     let i : r .place + length (preorders (b .ts)) ≡ p + length (preorder (r .value) ++ preorders (b .ts)) = omega (arith, a .ends, length-append (preorder (r .value)) (preorders (b .ts))) in
     record {
@@ -65,7 +66,7 @@ stops-later ar n k p bs x q r a b =
 
 -- The first tree stops.
 stops-first : (ar : List ℕ) (n k p : ℕ) (bs : List ℕ) (x q : ℕ) → Stops ar n p bs x q → StopsIn ar n (suc k) p bs x q
-unfolding count Rankeds Levelss preorders
+unfolding Levelss preorders
 stops-first ar n k p bs x q s =
     record { ts = ∅; few = omega arith; ranks = tt; levels = tt; rest = bs; is = refl; stops = subst (λ (z : ℕ). Stops ar n z bs x q) (sym (add-zero p)) s }
 

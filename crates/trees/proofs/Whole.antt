@@ -10,10 +10,11 @@ use lib.Dec.{ltb, eqb}
 use lib.ListN.{length}
 use Rattle.words.specs.Reply.{given, _then_}
 use Rattle.machine.specs.Machine.{Tree}
-use Rattle.trees.specs.Preorder.{preorder, Ranked, Levels}
+use Rattle.machine.specs.Ranks.{Ranked}
+use Rattle.trees.specs.Preorder.{preorder, Levels}
 use Rattle.trees.specs.Shape.{Read, treeAt, alone, readTree, treeMost, depthMost}
 use Rattle.trees.proofs.Preorder.{preorder-some}
-use Rattle.trees.proofs.Causes.{Sized}
+use Rattle.trees.specs.Causes.{Sized}
 use Rattle.trees.proofs.Replies.{given-injective, refuse-given, then-given}
 use Rattle.trees.proofs.Shape.{tree-sound, tree-complete}
 

@@ -2,3 +2,4 @@
 pub mod Preorder
 pub mod Shape
 pub mod Lacking
+pub mod Causes

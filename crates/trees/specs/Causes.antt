@@ -5,7 +5,8 @@ use mathlib.Core.Logic.{_⊎_}
 use Prim.Native.Nat.{ℕ, suc, _<_, _≤_}
 use lib.ListN.{length, getD, take}
 use Rattle.machine.specs.Machine.{Tree, Forest}
-use Rattle.trees.specs.Preorder.{preorder, preorders, count, Ranked, Rankeds, Levels, Levelss}
+use Rattle.machine.specs.Ranks.{count, Ranked, Rankeds}
+use Rattle.trees.specs.Preorder.{preorder, preorders, Levels, Levelss}
 use Rattle.trees.specs.Shape.{treeMost, depthMost}
 
 -- The bytes u begin a ranked tree with n levels allowed, and m of these are left for the symbol that is next. Either nothing is read yet; or u is a
