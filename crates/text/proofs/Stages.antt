@@ -1,0 +1,134 @@
+-- Stages of reading: what has been written up to a stage, and the limits that hold so far.
+use mathlib.Core.Path.{_≡_, refl, sym, ap, _∙_}
+use mathlib.Core.List.{List, [], _∷_, _++_, append-assoc, append-nil}
+use Prim.Native.Nat.{ℕ, _≤_}
+use native.Mathlib.Omega.{arith}
+use lib.ListN.{length, length-append}
+use Rattle.machine.specs.Machine.{Row, Table, Every, RowFits, WellMade}
+use Rattle.text.specs.Limits.{textMost, symbolsMost, arityMost, statesMost, rowsMost}
+use Rattle.text.specs.Lines.{lineOf}
+use Rattle.text.specs.Frames.{Stage, symbols, rules, ended, withRow}
+use Rattle.text.specs.Writing.{rowFrame, initialFrame, symbolLines, rowLines, writeTable, AtMost, Short, ShortRow, Limited}
+use Rattle.text.proofs.Fields.{most-append}
+use Rattle.text.proofs.Rising.{rising-snoc}
+use Rattle.text.proofs.Frames.{Started, Due, Takes, symbol, start, row, end}
+
+-- The limits of a table, but for its text's length.
+pub record Bounded (M : Table) : Type 0 where
+  pub made : WellMade M
+  pub some-symbol : 1 ≤ length (M .arities)
+  pub symbols : length (M .arities) ≤ symbolsMost
+  pub arities : AtMost arityMost (M .arities)
+  pub states : M .states ≤ statesMost
+  pub before : Short (M .before)
+  pub after : Short (M .after)
+  pub rows : length (M .rows) ≤ rowsMost
+  pub short : Every ShortRow (M .rows)
+
+-- With its text's length they are all.
+pub bounded-limited : (M : Table) → Bounded M → length (writeTable M) ≤ textMost → Limited M
+bounded-limited M h k =
+    record { made = h .made; some-symbol = h .some-symbol; symbols = h .symbols; arities = h .arities; states = h .states; before = h .before; after = h .after; rows = h .rows; short = h .short; text = k }
+
+-- And the other way.
+pub limited-bounded : (M : Table) → Limited M → Bounded M
+limited-bounded M h =
+    record { made = h .made; some-symbol = h .some-symbol; symbols = h .symbols; arities = h .arities; states = h .states; before = h .before; after = h .after; rows = h .rows; short = h .short }
+
+-- The text up to a stage.
+unfoldable pub written : Stage → List ℕ
+written (symbols ks) = symbolLines ks
+written (rules M) = symbolLines (M .arities) ++ lineOf (initialFrame M) ++ rowLines (M .rows)
+written (ended M) = writeTable M
+
+-- The limits that hold at a stage.
+unfoldable pub Within : Stage → Type 0
+Within (symbols ks) = (length ks ≤ symbolsMost) × AtMost arityMost ks
+Within (rules M) = Bounded M
+Within (ended M) = Bounded M
+
+-- ---- what a frame adds to the text
+
+-- The lines of symbols and of more symbols.
+pub symbols-append : (ks ls : List ℕ) → symbolLines (ks ++ ls) ≡ symbolLines ks ++ symbolLines ls
+unfolding symbolLines
+symbols-append [] ls = refl
+symbols-append (k ∷ ks) ls = rw (symbols-append ks ls, append-assoc)
+
+-- The lines of rows and of more rows.
+pub rows-append : (rs qs : List Row) → rowLines (rs ++ qs) ≡ rowLines rs ++ rowLines qs
+unfolding rowLines
+rows-append [] qs = refl
+rows-append (r ∷ rs) qs = rw (rows-append rs qs, append-assoc)
+
+-- A frame adds its line.
+pub takes-written : (s : Stage) (frame : List ℕ) (s′ : Stage) → Takes s frame s′ → written s′ ≡ written s ++ lineOf frame
+unfolding written symbolLines rowLines writeTable initialFrame
+takes-written s frame s′ (symbol ks a e f g h k) = rw (e, f, g, symbols-append ks (a ∷ []), append-nil (lineOf (1 ∷ a ∷ [])))
+takes-written s frame s′ (start M e f g h k) = rw (e, f, g, h) (append-nil (symbolLines (M .arities) ++ lineOf (initialFrame M)))
+takes-written s frame s′ (row M r e f g h) =
+    let l = symbolLines (M .arities) ++ lineOf (initialFrame M) in
+    rw (e, f, g) (ap (λ x. l ++ x) (rows-append (M .rows) (r ∷ []) ∙ ap (λ x. rowLines (M .rows) ++ x) (append-nil (lineOf (rowFrame r)))) ∙ sym (append-assoc l (rowLines (M .rows)) (lineOf (rowFrame r))))
+takes-written s frame s′ (end M e f g) = rw (e, f, g)
+
+-- ---- what a frame keeps
+
+-- What holds of every row, and what follows from it.
+every-map : (P Q : Row → Type 0) → ((r : Row) → P r → Q r) → (rs : List Row) → Every P rs → Every Q rs
+every-map P Q f [] h = tt
+every-map P Q f (r ∷ rs) h = (f r (h .0), every-map P Q f rs (h .1))
+
+-- What holds of every row and of one behind them.
+every-snoc : (P : Row → Type 0) (rs : List Row) (r : Row) → Every P rs → P r → Every P (rs ++ r ∷ [])
+every-snoc P [] r h k = (k, tt)
+every-snoc P (s ∷ rs) r h k = (h .0, every-snoc P rs r (h .1) k)
+
+-- The table with other rows.
+abbrev pub withRows : Table → List Row → Table
+withRows M rs = record { arities = M .arities; states = M .states; before = M .before; start = M .start; after = M .after; rows = rs }
+
+-- A row that fits a table fits it with other rows.
+pub fits-with : (M : Table) (rs : List Row) (r : Row) → RowFits M r → RowFits (withRows M rs) r
+fits-with M rs r h = record { state = h .state; symbol = h .symbol; arity = h .arity; children = h .children }
+
+-- A table that is started is within the limits if its symbols are.
+start-bounded : (M : Table) → M .rows ≡ [] → (length (M .arities) ≤ symbolsMost) × AtMost arityMost (M .arities) → Started M → Bounded M
+start-bounded M e w h = record {
+  made = record { start = h .start; rows = rw e tt; rising = rw e tt };
+  some-symbol = h .some-symbol;
+  symbols = w .0;
+  arities = w .1;
+  states = h .states;
+  before = h .before;
+  after = h .after;
+  rows = rw e (omega arith);
+  short = rw e tt;
+}
+
+-- A table with a row that may come next is within the limits if it was.
+row-bounded : (M : Table) (r : Row) → Bounded M → Due M r → Bounded (withRow M r)
+row-bounded M r w h = record {
+  made = record {
+    start = w .made .start;
+    rows = every-map (RowFits M) (RowFits (withRow M r)) (fits-with M (M .rows ++ r ∷ [])) (M .rows ++ r ∷ []) (every-snoc (RowFits M) (M .rows) r (w .made .rows) (h .fits));
+    rising = rising-snoc (M .rows) r (w .made .rising) (h .rises);
+  };
+  some-symbol = w .some-symbol;
+  symbols = w .symbols;
+  arities = w .arities;
+  states = w .states;
+  before = w .before;
+  after = w .after;
+  rows = rw length-append (omega (arith, h .room));
+  short = every-snoc ShortRow (M .rows) r (w .short) (h .short);
+}
+
+-- A frame keeps the limits.
+pub takes-within : (s : Stage) (frame : List ℕ) (s′ : Stage) → Within s → Takes s frame s′ → Within s′
+unfolding Within
+takes-within s frame s′ w (symbol ks a e f g h k) =
+    let v : (length ks ≤ symbolsMost) × AtMost arityMost ks = rw e at w in
+    rw g (omega (arith, length-append ks (a ∷ [])), most-append arityMost ks (a ∷ []) (v .1) (k, tt))
+takes-within s frame s′ w (start M e f g h k) = rw g (start-bounded M h (rw e at w) k)
+takes-within s frame s′ w (row M r e f g h) = rw g (row-bounded M r (rw e at w) h)
+takes-within s frame s′ w (end M e f g) = rw g (rw e at w)
