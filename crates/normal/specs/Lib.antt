@@ -1,0 +1,4 @@
+-- Names for the laws of the form.
+pub mod Pairs
+pub mod Listed
+pub mod Shrunk

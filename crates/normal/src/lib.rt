@@ -1,0 +1,1 @@
+// Laws of the form, and nothing else: see proofs/.
