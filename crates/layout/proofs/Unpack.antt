@@ -1,0 +1,98 @@
+-- Unpacking an entry: each number that was packed into it is read off by a division and a remainder.
+use mathlib.Core.Path.{_≡_}
+use mathlib.Core.Bool.{Bool, true, false}
+use mathlib.Core.List.{List, [], _∷_}
+use Prim.Native.Nat.{ℕ, zero, suc, _+_, _*_, _/_, _%_, _^_, _<_, _≤_}
+use native.Mathlib.Omega.{arith}
+use lib.Dec.{eqb}
+use lib.ListN.{length}
+use Rattle.words.specs.Word.{Word, spaces}
+use Rattle.machine.specs.Machine.{Child, Rule, Each}
+use Rattle.layout.proofs.Modest.{Modest}
+use Rattle.layout.specs.Layout.{restLetters, restSpaces, ruleLetters, ruleSpaces, childState, kidsPacked, entryOf}
+
+-- The numbers that make up x: a below 256, p below 16,384, s below 256, c₀ to c₃ below 64, k below 8.
+pub record Digits (a p s c₀ c₁ c₂ c₃ k x : ℕ) : Type 0 where
+  pub letters : x % 256 ≡ a
+  pub place : x / 256 % 16384 ≡ p
+  pub spaces : x / 268435456 % 256 ≡ s
+  pub kids : x / 18014398509481984 % 8 ≡ k
+  pub child₀ : x / 4194304 % 64 ≡ c₀
+  pub child₁ : x / 68719476736 % 64 ≡ c₁
+  pub child₂ : x / 4398046511104 % 64 ≡ c₂
+  pub child₃ : x / 281474976710656 % 64 ≡ c₃
+  pub small : x < 2 ^ 57
+
+-- Numbers below their bounds are read off their packed sum.
+pub digits : (a p s c₀ c₁ c₂ c₃ k : ℕ) → a < 256 → p < 16384 → s < 256 → c₀ < 64 → c₁ < 64 → c₂ < 64 → c₃ < 64 → k < 8
+    → Digits a p s c₀ c₁ c₂ c₃ k (a + 256 * p + 2 ^ 28 * s + (2 ^ 22 * c₀ + (2 ^ 36 * c₁ + (2 ^ 42 * c₂ + (2 ^ 48 * c₃ + 2 ^ 54 * k)))))
+digits a p s c₀ c₁ c₂ c₃ k ha hp hs h₀ h₁ h₂ h₃ hk =
+    record {
+      letters = omega arith;
+      place = omega arith;
+      spaces = omega arith;
+      kids = omega arith;
+      child₀ = omega arith;
+      child₁ = omega arith;
+      child₂ = omega arith;
+      child₃ = omega arith;
+      small = omega arith;
+    }
+
+-- A word has at most as many letters 20 as letters.
+pub spaces-most : (u : Word) → spaces u ≤ length u
+unfolding spaces
+spaces-most [] = omega arith
+spaces-most (x ∷ w) = go (eqb x 0x20) (spaces-most w)
+  where
+    go : (b : Bool) → spaces w ≤ length w → (elim b [ true ↦ suc (spaces w) | false ↦ spaces w ]) ≤ suc (length w)
+    go true h = omega arith
+    go false h = omega arith
+
+-- The rest of a rule writes at most 32 letters a child.
+rest-letters-most : (cs : List Child) → Each (λ c ds. (length (c .after) ≤ 32) × (c .state < 64)) cs → restLetters cs ≤ 32 * length cs
+unfolding restLetters
+rest-letters-most [] h = omega arith
+rest-letters-most (c ∷ cs) h = let i = rest-letters-most cs (h .1) in omega (arith, h .0 .0, i)
+
+-- The rest of a rule writes at most as many letters 20 as letters.
+rest-spaces-most : (cs : List Child) → restSpaces cs ≤ restLetters cs
+unfolding restSpaces restLetters
+rest-spaces-most [] = omega arith
+rest-spaces-most (c ∷ cs) = omega (arith, spaces-most (c .after), rest-spaces-most cs)
+
+-- The state of child j is below 64, also where there is none.
+child-state-small : (cs : List Child) (j : ℕ) → Each (λ c ds. (length (c .after) ≤ 32) × (c .state < 64)) cs → childState cs j < 64
+unfolding childState
+child-state-small [] j h = omega arith
+child-state-small (c ∷ cs) zero h = h .0 .1
+child-state-small (c ∷ cs) (suc j) h = child-state-small cs j (h .1)
+
+-- A modest rule writes at most 160 letters itself.
+pub letters-most : {r : Rule} → Modest r → ruleLetters r ≤ 160
+unfolding ruleLetters
+letters-most {r} m = omega (arith, m .first, m .kids, rest-letters-most (r .rest) (m .rest))
+
+-- A rule writes at most as many letters 20 as letters.
+pub spaces-below-letters : (r : Rule) → ruleSpaces r ≤ ruleLetters r
+unfolding ruleSpaces ruleLetters
+spaces-below-letters r = omega (arith, spaces-most (r .first), rest-spaces-most (r .rest))
+
+-- What is read off the entry x of a rule r whose bytes stand at p: its letters, p, its letters 20, its children.
+abbrev pub Unpacked : ℕ → Rule → ℕ → Type 0
+Unpacked p r x =
+    Digits (ruleLetters r) p (ruleSpaces r) (childState (r .rest) 0) (childState (r .rest) 1) (childState (r .rest) 2) (childState (r .rest) 3) (length (r .rest)) x
+
+-- A modest rule's entry unpacks to the rule's numbers.
+pub entry-unpacks : (p : ℕ) {r : Rule} → Modest r → p < 16384 → Unpacked p r (entryOf p r)
+unfolding entryOf kidsPacked
+entry-unpacks p {r} m hp =
+    let cs = r .rest in
+    let small : (j : ℕ) → childState cs j < 64 = λ j. child-state-small cs j (m .rest) in
+    digits (ruleLetters r) p (ruleSpaces r) (childState cs 0) (childState cs 1) (childState cs 2) (childState cs 3) (length cs) (omega (arith, letters-most m)) hp
+    (omega (arith, letters-most m, spaces-below-letters r)) (small 0) (small 1) (small 2) (small 3) (omega (arith, m .kids))
+
+-- An entry is not 0, since a rule's bytes never stand at the start.
+pub entry-positive : (p : ℕ) (r : Rule) → 0 < p → 0 < entryOf p r
+unfolding entryOf
+entry-positive p r h = omega arith
