@@ -1,0 +1,2 @@
+-- The one theorem: every starred case holds.
+pub mod Starred
