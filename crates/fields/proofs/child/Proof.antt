@@ -1,0 +1,121 @@
+-- `child` meets its contract. Assumes nothing.
+use mathlib.Core.Path.{ap, _∙_}
+use Prim.Native.Nat.{_+_, _-_}
+use native.Mathlib.Omega.{arith}
+use lib.Seq.{slice}
+use Rattle.text.specs.Fields as text
+use Rattle.fields.proofs.Slices.{slice-part}
+use Rattle.words.specs.Word.{spaces}
+use Rattle.fields.proofs.Numbers as law
+use Rattle.fields.proofs.Words as word
+use Rattle.fields.proofs.Family as child
+use borrow.Author.Needs.{needs}
+use Rattle.fields.proofs.child.Statement.{statement}
+use Rattle.fields.proofs.child.Tie as tie
+
+below-requires : tie.Need-below-requires
+below-requires c κs = search needs
+
+enum-known-first : tie.Need-enum-known-first
+enum-known-first c = search needs
+
+enum-told : tie.Need-enum-told
+enum-told c = search needs
+
+number-of-requires : tie.Need-number-of-requires
+number-of-requires c κs = search needs
+
+returns : tie.Need-returns
+returns c =
+    let a = c .before .before .before .before .before .args in
+    let k = c .before .enum-told .given .0 .0 in
+    let f = law.fault-number (a .frames .now) (a .at) (a .end) k _ (c .before .before .before .below .result) (c .before .enum-told .given .1) (c .before .before .before .below .ensures) in
+    child.child-fault (a .frames .now) (a .at) (a .end) k _ _ (child.state-fault (a .states) _ k f)
+    (child.fault-of (c .before .before .before .below .result) (c .number-of .result) k (c .before .enum-told .given .1) (c .number-of .ensures))
+
+-- What the state's byte gives.
+numbered : (c : tie.After-known-told) →
+    let a = c .before .before .before .before .before .args in
+    law.IsNumber (a .frames .now) (a .at) (a .end) (c .before .first .given .0 .0) (c .before .first .given .0 .1 .0) (text.below (a .states) (slice (a .at) (a .end) (a .frames .now)))
+numbered c =
+    let a = c .before .before .before .before .before .args in
+    let b = c .before .before .before .below in
+    law.got-number (a .frames .now) (a .at) (a .end) _ _ _ (b .result) (c .before .first .given .1) (b .ensures)
+
+word-requires : tie.Need-word-requires
+word-requires c κs = (numbered c .inside, c .before .before .before .before .before .pre .1)
+
+enum-known-second : tie.Need-enum-known-second
+enum-known-second c = search needs
+
+enum-told-2 : tie.Need-enum-told-2
+enum-told-2 c = search needs
+
+number-of-requires-2 : tie.Need-number-of-requires-2
+number-of-requires-2 c κs = search needs
+
+returns-2 : tie.Need-returns-2
+returns-2 c =
+    let a = c .before .before .before .before .before .before .before .before .before .args in
+    let k = c .before .enum-told2 .given .0 .0 in
+    let f = word.fault-word (a .frames .now) (c .before .before .before .before .before .first .given .0 .1 .0) (a .end) k _ (c .before .before .before .word .result) (c .before .enum-told2 .given .1) (c .before .before .before .word .ensures) in
+    child.child-fault (a .frames .now) (a .at) (a .end) k _ _ (child.after-fault (a .states) _ _ k _ (numbered (c .before .before .before .before) .read) f)
+    (child.fault-of (c .before .before .before .word .result) (c .number-of2 .result) k (c .before .enum-told2 .given .1) (c .number-of2 .ensures))
+
+-- What the word behind it gives.
+worded : (c : tie.After-known-told2) →
+    let n = c .before .before .before .before in
+    let a = n .before .before .before .before .before .args in
+    let u = n .before .first .given .0 .1 .0 in
+    word.IsWord (a .frames .now) u (a .end) (c .before .second .given .0 .0) (c .before .second .given .0 .1 .0) (text.text (slice u (a .end) (a .frames .now)))
+worded c =
+    let n = c .before .before .before .before in
+    let a = n .before .before .before .before .before .args in
+    let w = c .before .before .before .word in
+    word.got-word (a .frames .now) (n .before .first .given .0 .1 .0) (a .end) _ _ _ (w .result) (c .before .second .given .1) (w .ensures)
+
+add-gaps-of : tie.Need-add-gaps-of
+add-gaps-of c = omega (arith, worded c .next, worded c .inside, c .before .before .before .before .before .before .before .before .before .pre .1)
+
+sub-gaps-of : tie.Need-sub-gaps-of
+sub-gaps-of c = omega (arith, worded c .next)
+
+part-gaps-of-start : tie.Need-part-gaps-of-start
+part-gaps-of-start c = omega (arith, worded c .next)
+
+part-gaps-of-end : tie.Need-part-gaps-of-end
+part-gaps-of-end c = omega (arith, worded c .inside, c .before .before .before .before .before .before .before .before .before .pre .1)
+
+gaps-of-requires : tie.Need-gaps-of-requires
+gaps-of-requires c κs = search needs
+
+returns-3 : tie.Need-returns-3
+returns-3 c =
+    let a = c .before .before .before .before .before .before .before .before .before .before .before .args in
+    let f = c .before .before .before .before .before .before .before .first in
+    let s = c .before .before .before .second in
+    let w = worded (c .before .before) in
+    child.child-got (a .frames .now) (a .at) (a .end) (a .states) (f .given .0 .0) (f .given .0 .1 .0) (s .given .0 .0) (s .given .0 .1 .0) (c .gaps-of .result)
+    (numbered (c .before .before .before .before .before .before)) w
+    (c .gaps-of .ensures .0 ∙ ap spaces (slice-part (f .given .0 .1 .0 + 1) (s .given .0 .1 .0) (a .frames .now) (omega (arith, w .next))))
+
+pub child-spec : {M : Type 1} → statement M
+child-spec =
+    tie.close
+    (tie.spec
+    below-requires
+    enum-known-first
+    enum-told
+    number-of-requires
+    returns
+    word-requires
+    enum-known-second
+    enum-told-2
+    number-of-requires-2
+    returns-2
+    add-gaps-of
+    sub-gaps-of
+    part-gaps-of-start
+    part-gaps-of-end
+    gaps-of-requires
+    returns-3)

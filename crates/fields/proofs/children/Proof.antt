@@ -1,0 +1,143 @@
+-- `children` meets its contract. The loop's invariant: the children before are read. The measure is how many are left. Assumes nothing.
+use borrow.Author.Needs.{needs}
+use Prim.Native.Nat.{_<_, _≤_}
+use native.Mathlib.Omega.{arith}
+use lib.Seq.{slice}
+use Rattle.fields.specs.Read.{oneChild}
+use Rattle.fields.proofs.Spaces.{spaces-le}
+use Rattle.fields.proofs.Family as child
+use Rattle.fields.proofs.Packed as packed
+use Rattle.fields.proofs.Siblings as law
+use Rattle.fields.proofs.Siblings.{Begun}
+use Rattle.fields.proofs.children.Statement.{statement}
+use Rattle.fields.proofs.children.Tie as tie
+
+abbrev Inv-loop : tie.InvT-loop
+Inv-loop frames at end states count next₀ letters₀ gaps₀ packed₀ weight₀ left₀ next letters gaps packed weight left = Begun frames at end states count next letters gaps packed weight left
+
+abbrev μ-loop : tie.MeasureT-loop
+μ-loop frames at end states count next₀ letters₀ gaps₀ packed₀ weight₀ left₀ next letters gaps packed weight left = left
+
+loop-holds : tie.Need-loop-holds Inv-loop μ-loop
+loop-holds c =
+    let a = c .before .args in
+    law.begin (a .frames .now) (a .at) (a .end) (a .states) (a .count) (c .before .pre .0 .0)
+
+child-requires : tie.Need-child-requires Inv-loop μ-loop
+child-requires c κs = (c .before .loop .inv .inside, c .before .before .before .pre .0 .1)
+
+enum-known-got : tie.Need-enum-known-got Inv-loop μ-loop
+enum-known-got c = search needs
+
+enum-told : tie.Need-enum-told Inv-loop μ-loop
+enum-told c = search needs
+
+fault-number-requires : tie.Need-fault-number-requires Inv-loop μ-loop
+fault-number-requires c κs = search needs
+
+returns : tie.Need-returns Inv-loop μ-loop
+returns c =
+    let a = c .before .before .before .before .before .before .before .args in
+    let l = c .before .before .before .before .before .loop in
+    let k = c .before .enum-told .given .0 .0 in
+    law.begun-fault (l .inv) k (c .fault-number .result) (c .before .before .before .before .loop-test .taken)
+    (child.fault-child (a .frames .now) (l .next) (a .end) k _ (c .before .before .before .child .result) (c .before .enum-told .given .1) (c .before .before .before .child .ensures))
+    (child.child-fault-of (c .before .before .before .child .result) (c .fault-number .result) k (c .before .enum-told .given .1) (c .fault-number .ensures))
+
+-- What the next child's bytes give.
+given : (c : tie.After-known-told Inv-loop μ-loop) →
+    let l = c .before .before .before .before .before .loop in
+    let a = c .before .before .before .before .before .before .before .args in
+    let g = c .before .got .given .0 in
+    child.IsChild (a .frames .now) (l .next) (a .end) (g .0) (g .1 .0) (g .1 .1 .0) (g .1 .1 .1 .0) (oneChild (a .states) (slice (l .next) (a .end) (a .frames .now)))
+given c =
+    let l = c .before .before .before .before .before .loop in
+    let a = c .before .before .before .before .before .before .before .args in
+    let r = c .before .before .before .child in
+    child.got-child (a .frames .now) (l .next) (a .end) _ _ _ _ _ (r .result) (c .before .got .given .1) (r .ensures)
+
+-- Its state is below 64.
+state-small : (c : tie.After-known-told Inv-loop μ-loop) → c .before .got .given .0 .0 < 64
+state-small c =
+    let a = c .before .before .before .before .before .before .before .args in
+    let i = given c in
+    omega (arith, child.child-below (a .states) _ (i .child) _ (i .read), i .state, c .before .before .before .before .before .before .before .pre .1 .0)
+
+-- Its letters 20 are some of its letters.
+gaps-small : (c : tie.After-known-told Inv-loop μ-loop) → c .before .got .given .0 .1 .1 .1 .0 ≤ 32
+gaps-small c = let i = given c in omega (arith, i .gaps, i .letters, i .short, spaces-le (i .child .after))
+
+-- Its weight is at most that of bit 48.
+weight-small : (c : tie.After-known-told Inv-loop μ-loop) → c .before .before .before .before .before .loop .weight ≤ 281474976710656
+weight-small c =
+    let b = c .before .before .before .before .before .loop .inv in
+    omega (arith, b .next-weight, packed.weight-most (b .acc) (omega (arith, b .number, c .before .before .before .before .loop-test .taken, c .before .before .before .before .before .before .before .pre .1 .1)))
+
+mul-packed : tie.Need-mul-packed Inv-loop μ-loop
+mul-packed c = omega (arith, packed.weight-state (c .before .before .before .before .before .loop .weight) (c .before .got .given .0 .0) (state-small c), weight-small c)
+
+add-packed : tie.Need-add-packed Inv-loop μ-loop
+add-packed c =
+    let l = c .before .before .before .before .before .loop in
+    omega (arith, packed.weight-state (l .weight) (c .before .got .given .0 .0) (state-small c), weight-small c, l .inv .small)
+
+weight-after-requires : tie.Need-weight-after-requires Inv-loop μ-loop
+weight-after-requires c κs = weight-small c
+
+add-letters : tie.Need-add-letters Inv-loop μ-loop
+add-letters c =
+    let l = c .before .before .before .before .before .before .loop in
+    omega (arith, given (c .before) .short, l .inv .few, l .inv .number, c .before .before .before .before .before .before .before .before .pre .1 .1)
+
+add-gaps : tie.Need-add-gaps Inv-loop μ-loop
+add-gaps c =
+    let l = c .before .before .before .before .before .before .loop in
+    omega (arith, gaps-small (c .before), l .inv .gaps-few, l .inv .few, l .inv .number, c .before .before .before .before .before .before .before .before .pre .1 .1)
+
+sub-left : tie.Need-sub-left Inv-loop μ-loop
+sub-left c = search needs
+
+loop-less : tie.Need-loop-less Inv-loop μ-loop
+loop-less c = search needs
+
+loop-again : tie.Need-loop-again Inv-loop μ-loop
+loop-again c =
+    let t = c .before .before .before .before .before in
+    let p = t .before .before .before .pre in
+    law.begun-more (t .before .loop .inv) _ _ _ _ (c .weight-after .result) (t .loop-test .taken) (p .1 .0) (given (c .before)) (c .weight-after .ensures)
+
+mul-t22 : tie.Need-mul-t22 Inv-loop μ-loop
+mul-t22 c = omega (arith, c .before .before .before .pre .1 .1)
+
+add-t23 : tie.Need-add-t23 Inv-loop μ-loop
+add-t23 c =
+    let l = c .before .loop in
+    let p = c .before .before .before .pre in
+    omega (arith, p .1 .1, l .inv .small, l .inv .next-weight, packed.weight-last (l .inv .acc) (omega (arith, l .inv .number, p .1 .1)))
+
+returns-2 : tie.Need-returns-2 Inv-loop μ-loop
+returns-2 c = law.begun-all (c .before .loop .inv) (c .loop-test .left) (c .before .before .before .pre .1 .1)
+
+pub children-spec : {M : Type 1} → statement M
+children-spec =
+    tie.close
+    (tie.spec
+    Inv-loop
+    μ-loop
+    loop-holds
+    child-requires
+    enum-known-got
+    enum-told
+    fault-number-requires
+    returns
+    mul-packed
+    add-packed
+    weight-after-requires
+    add-letters
+    add-gaps
+    sub-left
+    loop-less
+    loop-again
+    mul-t22
+    add-t23
+    returns-2)

@@ -1,0 +1,2 @@
+-- The fields of a frame.
+pub mod Read

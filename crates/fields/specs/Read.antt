@@ -1,0 +1,105 @@
+-- What reading a field at a place of the decoded bytes answers. Definitions only.
+use mathlib.Core.Path.{_≡_}
+use mathlib.Core.Bool.{true, false}
+use lib.Dec.{eqb}
+use mathlib.Core.List.{List, [], _∷_}
+use Prim.Native.Nat.{ℕ, _+_, _*_, _^_, _≤_, _<_}
+use lib.ListN.{length}
+use lib.Seq.{slice}
+use Rattle.words.specs.Word.{Word, spaces}
+use Rattle.machine.specs.Machine.{Child}
+use Rattle.text.specs.Fields as text
+use Rattle.text.specs.Fields.{Parsed, got, fault, _>>=_, pure}
+use Rattle.layout.specs.Layout.{restLetters, restSpaces, kidsPacked}
+use Rattle.fields.specs.declared.Field.{Field}
+use Rattle.fields.specs.declared.Field.the-variants as field
+use Rattle.fields.specs.declared.OneChild.{OneChild}
+use Rattle.fields.specs.declared.OneChild.the-variants as one
+use Rattle.fields.specs.declared.Kids.{Kids}
+use Rattle.fields.specs.declared.Kids.the-variants as kids
+
+-- The bytes left of a frame that ends at `end` are `slice at end F`. A number field: its value, and the bytes left from `next` on.
+pub record Number (F bs : List ℕ) (v at end n then : ℕ) : Type 0 where
+  pub value : n ≡ v
+  pub left : bs ≡ slice then end F
+  pub next : then ≡ at + 1
+  pub inside : then ≤ end
+
+abbrev pub NumberRead : List ℕ → ℕ → ℕ → Parsed ℕ → Field → Type 0
+NumberRead F at end (got v bs) (field.Got value next) = Number F bs v at end value next
+NumberRead F at end (got v bs) (field.Fault n) = ⊥
+NumberRead F at end (fault k) (field.Got value next) = ⊥
+NumberRead F at end (fault k) (field.Fault n) = n ≡ k
+
+-- A word field: the word's length byte stands at `at`, its letters up to `next`.
+pub record Stretch (F bs : List ℕ) (u : Word) (at end n then : ℕ) : Type 0 where
+  pub value : n ≡ length u
+  pub short : n ≤ 32
+  pub word : u ≡ slice (at + 1) then F
+  pub left : bs ≡ slice then end F
+  pub next : then ≡ at + 1 + n
+  pub inside : then ≤ end
+
+abbrev pub WordRead : List ℕ → ℕ → ℕ → Parsed Word → Field → Type 0
+WordRead F at end (got u bs) (field.Got value next) = Stretch F bs u at end value next
+WordRead F at end (got u bs) (field.Fault n) = ⊥
+WordRead F at end (fault k) (field.Got value next) = ⊥
+WordRead F at end (fault k) (field.Fault n) = n ≡ k
+
+-- A child's fields: its state and a word.
+unfoldable pub oneChild : ℕ → text.Field Child
+oneChild states = do
+  q ← text.below states
+  u ← text.text
+  pure (record { state = q; after = u })
+
+-- A child's state, the letters and letters 20 of the word behind it, and where the next field stands.
+pub record ChildAt (F bs : List ℕ) (c : Child) (at end q then n s : ℕ) : Type 0 where
+  pub state : q ≡ c .state
+  pub left : bs ≡ slice then end F
+  pub next : at + 2 ≤ then
+  pub inside : then ≤ end
+  pub letters : n ≡ length (c .after)
+  pub gaps : s ≡ spaces (c .after)
+  pub short : n ≤ 32
+
+abbrev pub ChildRead : List ℕ → ℕ → ℕ → Parsed Child → OneChild → Type 0
+ChildRead F at end (got c bs) (one.Got q then n s) = ChildAt F bs c at end q then n s
+ChildRead F at end (got c bs) (one.Fault n) = ⊥
+ChildRead F at end (fault k) (one.Got q then n s) = ⊥
+ChildRead F at end (fault k) (one.Fault n) = n ≡ k
+
+-- The children's fields: their letters, letters 20, and states and count in one number.
+pub record Family (F bs : List ℕ) (cs : List Child) (at end then n s x : ℕ) : Type 0 where
+  pub left : bs ≡ slice then end F
+  pub from : at ≤ then
+  pub inside : then ≤ end
+  pub letters : n ≡ restLetters cs
+  pub gaps : s ≡ restSpaces cs
+  pub packed : x ≡ kidsPacked cs
+  pub few : n ≤ 128
+  pub gaps-few : s ≤ n
+  pub small : x < 2 ^ 57
+
+abbrev pub KidsRead : List ℕ → ℕ → ℕ → Parsed (List Child) → Kids → Type 0
+KidsRead F at end (got cs bs) (kids.Got then n s x) = Family F bs cs at end then n s x
+KidsRead F at end (got cs bs) (kids.Fault n) = ⊥
+KidsRead F at end (fault k) (kids.Got then n s x) = ⊥
+KidsRead F at end (fault k) (kids.Fault n) = n ≡ k
+
+-- The number of a refused field or child, 0 for one that is not.
+abbrev pub faultOf : Field → ℕ
+faultOf (field.Got value next) = 0
+faultOf (field.Fault n) = n
+
+abbrev pub childFaultOf : OneChild → ℕ
+childFaultOf (one.Got q then n s) = 0
+childFaultOf (one.Fault n) = n
+
+abbrev pub kidsFaultOf : Kids → ℕ
+kidsFaultOf (kids.Got then n s x) = 0
+kidsFaultOf (kids.Fault n) = n
+
+-- What the next child's state counts for in the packed number.
+abbrev pub weightAfter : ℕ → ℕ
+weightAfter w = elim (eqb w 4194304) [ true ↦ 68719476736 | false ↦ w * 64 ]

@@ -1,0 +1,3 @@
+-- Laws of taking a line.
+pub mod Scan
+pub mod Laws

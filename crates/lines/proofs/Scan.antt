@@ -1,0 +1,192 @@
+-- Laws of one line at the front of a text, one step at a time, and of bytes that are filled behind others.
+use mathlib.Core.Path.{_≡_, refl, sym, ap, _∙_}
+use mathlib.Core.List.{List, [], _∷_, _++_, append-assoc, append-nil}
+use mathlib.Core.Option.{Option, none, some}
+use Prim.Native.Nat.{ℕ, suc, _+_, _-_, _*_, _<_, _≤_}
+use native.Mathlib.Numerals.{add-one}
+use native.Mathlib.Omega.{arith}
+use native.Mathlib.Nat.{add-zero}
+use borrow.Author.Tests.{le-leb, lt-leb, eq-eqb, ne-eqb}
+use lib.ListN.{length, getD, take, drop, set, length-append, length-drop, drop-of-length-le, take-append-drop}
+use lib.Seq.{drop-cons, set-at, length-take-le, take-at, append-snoc}
+use Rattle.text.specs.Lines.{digit}
+use Rattle.text.proofs.Digits.{digit-inv}
+use Rattle.lines.specs.Scan.{Scanned, whole, bad, withByte, scan, valueOr16, Put, Kept, Taken}
+use Rattle.lines.specs.declared.Line.the-variants.{Whole, Bad}
+
+-- ---- a digit's value
+
+-- From 0 to 9.
+pub value-low : (c : ℕ) → 48 ≤ c → c ≤ 57 → c - 48 ≡ valueOr16 (digit c)
+unfolding digit
+value-low c h k = rw (le-leb 48 c h, le-leb c 57 k, digit)
+
+-- From a to f.
+pub value-high : (c : ℕ) → 97 ≤ c → c ≤ 102 → c - 87 ≡ valueOr16 (digit c)
+unfolding digit
+value-high c h k = rw (le-leb 48 c (omega arith), lt-leb c 57 (omega arith), le-leb 97 c h, le-leb c 102 k, digit) (omega arith)
+
+-- Before 0, between 9 and a, behind f.
+pub value-before : (c : ℕ) → c < 48 → 16 ≡ valueOr16 (digit c)
+unfolding digit
+value-before c h = rw (lt-leb 48 c h, lt-leb 97 c (omega arith), digit)
+
+pub value-between : (c : ℕ) → 57 < c → c < 97 → 16 ≡ valueOr16 (digit c)
+unfolding digit
+value-between c h k = rw (le-leb 48 c (omega arith), lt-leb c 57 h, lt-leb 97 c k, digit)
+
+pub value-behind : (c : ℕ) → 102 < c → 16 ≡ valueOr16 (digit c)
+unfolding digit
+value-behind c h = rw (le-leb 48 c (omega arith), lt-leb c 57 (omega arith), le-leb 97 c (omega arith), lt-leb c 102 h, digit)
+
+-- A value below 16 is a digit's.
+pub value-digit : (c v : ℕ) → v ≡ valueOr16 (digit c) → v ≤ 15 → digit c ≡ some v
+value-digit c v e h = go (digit c) e
+  where
+    go : (o : Option ℕ) → v ≡ valueOr16 o → o ≡ some v
+    go (some w) f = ap some (sym f)
+    go none f = absurd (omega arith)
+
+-- Any other is no digit's.
+pub value-none : (c v : ℕ) → v ≡ valueOr16 (digit c) → 15 < v → digit c ≡ none
+value-none c v e h = go (digit c) refl e
+  where
+    go : (o : Option ℕ) → digit c ≡ o → v ≡ valueOr16 o → o ≡ none
+    go (some w) d f = absurd (omega (arith, digit-inv c w d .0))
+    go none d f = refl
+
+-- ---- one step of the scan, at place i of a text
+
+-- Bytes in front of a line.
+abbrev pub prepended : List ℕ → Scanned → Scanned
+prepended acc (whole bs t) = whole (acc ++ bs) t
+prepended acc bad = bad
+
+-- No bytes in front change nothing.
+pub prepended-none : (s : Scanned) → s ≡ prepended [] s
+prepended-none (whole bs t) = refl
+prepended-none bad = refl
+
+-- One byte more goes to the bytes in front.
+pub prepended-byte : (acc : List ℕ) (h l : ℕ) (s : Scanned) → prepended acc (withByte (some h) (some l) s) ≡ prepended (acc ++ (h * 16 + l) ∷ []) s
+prepended-byte acc h l (whole bs t) = ap (λ x. whole x t) (sym (append-snoc acc (h * 16 + l) bs))
+prepended-byte acc h l bad = refl
+
+-- The line ends at its 0a.
+scan-cons-feed : (c : ℕ) (t : List ℕ) → c ≡ 10 → scan (c ∷ t) ≡ whole [] t
+unfolding scan
+scan-cons-feed c [] e = rw (eq-eqb c 10 e)
+scan-cons-feed c (d ∷ t) e = rw (eq-eqb c 10 e)
+
+pub scan-feed : (T : List ℕ) (i : ℕ) → i < length T → getD T i 0 ≡ 10 → scan (drop i T) ≡ whole [] (drop (i + 1) T)
+scan-feed T i h e = rw (add-one, drop-cons T i 0) (scan-cons-feed (getD T i 0) (drop (suc i) T) e)
+
+-- Nothing is left: no 0a closes the line.
+pub scan-end : (T : List ℕ) (i : ℕ) → length T ≤ i → scan (drop i T) ≡ bad
+unfolding scan
+scan-end T i h = rw (drop-of-length-le T h)
+
+-- One character is left, and it is no 0a.
+pub scan-odd : (T : List ℕ) (i : ℕ) → i < length T → length T - i < 2 → (getD T i 0 ≡ 10 → ⊥) → scan (drop i T) ≡ bad
+unfolding scan
+scan-odd T i h k f =
+    let l : length T ≤ suc i = omega arith in
+    rw (drop-cons T i 0 h, drop-of-length-le T l, ne-eqb (getD T i 0) 10 f)
+
+-- Two characters are left at least, and the first is no 0a: they are digits of a byte.
+pub scan-pair : (T : List ℕ) (i : ℕ) → i + 1 < length T → (getD T i 0 ≡ 10 → ⊥) → scan (drop i T) ≡ withByte (digit (getD T i 0)) (digit (getD T (i + 1) 0)) (scan (drop (i + 2) T))
+unfolding scan
+scan-pair T i h f =
+    let k : i < length T = omega arith in
+    let l : suc i < length T = omega arith in
+    let m : i + 2 ≡ suc (suc i) = omega arith in
+    rw (m, add-one, drop-cons T i 0 k, drop-cons T (suc i) 0 l, ne-eqb (getD T i 0) 10 f)
+
+-- A character that is no digit makes the line bad.
+pub first-bad : {o : Option ℕ} (l : Option ℕ) (s : Scanned) → o ≡ none → withByte o l s ≡ bad
+first-bad l s e = rw e
+
+pub second-bad : {o : Option ℕ} (h : Option ℕ) (s : Scanned) → o ≡ none → withByte h o s ≡ bad
+second-bad none s e = refl
+second-bad (some h) s e = rw e
+
+-- ---- what the answer says
+
+-- The answer to a whole line, and to a bad one.
+pub taken-whole : (T : List ℕ) (s : Scanned) (bs t : List ℕ) (at used n then : ℕ) (F F′ : List ℕ) → s ≡ whole bs t → Put T bs t at used n then F F′ → Taken T s at used F F′ (Whole n then)
+taken-whole T s bs t at used n then F F′ e p = rw e p
+
+pub taken-bad : (T : List ℕ) (s : Scanned) (at used : ℕ) (F F′ : List ℕ) → s ≡ bad → Kept used F F′ → Taken T s at used F F′ Bad
+taken-bad T s at used F F′ e k = rw e k
+
+-- ---- bytes F that were F₀ and have acc from `used` on
+
+-- The bytes of the text before i are decoded: they are acc, behind the bytes before `used`, and the line is acc and what the text from i on gives.
+pub record Decoded (T F₀ F : List ℕ) (at used i n : ℕ) : Type 0 where
+  pub acc : List ℕ
+  pub long : length acc ≡ n
+  pub place : i ≡ at + 2 * n
+  pub inside : i ≤ length T
+  pub bytes : F ≡ take used F₀ ++ acc ++ drop (used + n) F₀
+  pub rest : scan (drop at T) ≡ prepended acc (scan (drop i T))
+
+-- Nothing is filled in yet.
+pub filled-none : (F : List ℕ) (used : ℕ) → F ≡ take used F ++ [] ++ drop (used + 0) F
+filled-none F used = rw (append-nil, add-zero, take-append-drop)
+
+-- How many bytes there are does not change.
+filled-length : (F₀ acc : List ℕ) (used n : ℕ) → length acc ≡ n → used + n ≤ length F₀ → length (take used F₀ ++ acc ++ drop (used + n) F₀) ≡ length F₀
+filled-length F₀ acc used n e h =
+    let k : used ≤ length F₀ = omega arith in
+    simp (length-append, length-take-le used F₀ k, length-drop) (omega arith)
+
+-- The bytes before `used` are as they were.
+filled-front : (F₀ acc : List ℕ) (used n : ℕ) → length acc ≡ n → used + n ≤ length F₀ → take used (take used F₀ ++ acc ++ drop (used + n) F₀) ≡ take used F₀
+filled-front F₀ acc used n e h =
+    let k : used ≤ length F₀ = omega arith in
+    rw append-assoc (take-at (take used F₀) (acc ++ drop (used + n) F₀) used (length-take-le used F₀ k))
+
+-- One byte more behind acc.
+filled-more : (F₀ acc : List ℕ) (used n b : ℕ) → length acc ≡ n → used + n < length F₀ → set (take used F₀ ++ acc ++ drop (used + n) F₀) (used + n) b ≡ take used F₀ ++ (acc ++ b ∷ []) ++ drop (used + (n + 1)) F₀
+filled-more F₀ acc used n b e h =
+    let k : used ≤ length F₀ = omega arith in
+    let l : length (take used F₀ ++ acc) ≡ used + n = simp (length-append, length-take-le used F₀ k) (omega arith) in
+    let m : used + (n + 1) ≡ suc (used + n) = omega arith in
+    rw (m, drop-cons F₀ (used + n) 0 h, set-at (take used F₀ ++ acc) (getD F₀ (used + n) 0) (drop (suc (used + n)) F₀) b (used + n) l, ← append-assoc, append-snoc)
+
+module _ {T F₀ F : List ℕ} {at used i n : ℕ} (room : 2 * used ≤ at) (text : length T ≤ 32768) (frames : 16384 ≤ length F₀) (d : Decoded T F₀ F at used i n) where
+  -- There is room for what is decoded.
+  pub decoded-room : used + n ≤ length F₀
+  decoded-room = omega (arith, d .place, d .inside)
+
+  -- The bytes before `used` are as they were.
+  pub decoded-kept : Kept used F₀ F
+  decoded-kept = record {
+    long = ap length (d .bytes) ∙ filled-length F₀ (d .acc) used n (d .long) decoded-room;
+    front = ap (λ x. take used x) (d .bytes) ∙ filled-front F₀ (d .acc) used n (d .long) decoded-room;
+  }
+
+  -- The line has ended.
+  pub decoded-whole : i < length T → getD T i 0 ≡ 10 → Taken T (scan (drop at T)) at used F₀ F (Whole n (i + 1))
+  decoded-whole h e =
+      let s : scan (drop at T) ≡ whole (d .acc) (drop (i + 1) T) = d .rest ∙ ap (prepended (d .acc)) (scan-feed T i h e) ∙ ap (λ x. whole x (drop (i + 1) T)) (append-nil (d .acc)) in
+      taken-whole T (scan (drop at T)) (d .acc) (drop (i + 1) T) at used n (i + 1) F₀ F s
+      (record { bytes = sym (d .long); next = omega (arith, d .place); inside = omega arith; rest = refl; put = d .bytes })
+
+  -- The line is bad from i on.
+  pub decoded-bad : scan (drop i T) ≡ bad → Taken T (scan (drop at T)) at used F₀ F Bad
+  decoded-bad e = taken-bad T (scan (drop at T)) at used F₀ F (d .rest ∙ ap (prepended (d .acc)) e) decoded-kept
+
+  -- One byte more.
+  pub decoded-more : (h l : ℕ) → i + 1 < length T → (getD T i 0 ≡ 10 → ⊥) → digit (getD T i 0) ≡ some h → digit (getD T (i + 1) 0) ≡ some l
+      → Decoded T F₀ (set F (used + n) (h * 16 + l)) at used (i + 2) (n + 1)
+  decoded-more h l k f a b =
+      let s : scan (drop i T) ≡ withByte (some h) (some l) (scan (drop (i + 2) T)) = rw (a, b) at (scan-pair T i k f) in
+      record {
+        acc = d .acc ++ (h * 16 + l) ∷ [];
+        long = rw length-append (omega (arith, d .long));
+        place = omega (arith, d .place);
+        inside = omega arith;
+        bytes = rw (d .bytes) (filled-more F₀ (d .acc) used n (h * 16 + l) (d .long) (omega (arith, d .place)));
+        rest = d .rest ∙ ap (prepended (d .acc)) s ∙ prepended-byte (d .acc) h l (scan (drop (i + 2) T));
+      }
