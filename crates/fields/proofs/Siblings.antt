@@ -14,7 +14,7 @@ use Rattle.text.proofs.Fields.{then-inv}
 use Rattle.fields.specs.Read.{oneChild, weightAfter, Family, KidsRead}
 use Rattle.fields.specs.declared.Kids.{Kids}
 use Rattle.fields.specs.declared.Kids.the-variants as kids
-use Rattle.fields.proofs.Spaces.{spaces-le}
+use Rattle.words.proofs.Terms.{spaces-length}
 use Rattle.fields.proofs.Packed.{firstWeight, weighed, weightBehind, weighed-snoc, weight-snoc, weighed-less, weight-last, weighed-packed}
 use Rattle.fields.proofs.Family.{IsChild, child-below}
 
@@ -135,7 +135,7 @@ module _ {F : List ℕ} {at end states count next letters gaps packed weight lef
         all-letters = omega (arith, b .all-letters, i .letters, letters-snoc (b .acc) c);
         all-gaps = omega (arith, b .all-gaps, i .gaps, spaces-snoc (b .acc) c);
         few = omega (arith, b .few, i .short, l);
-        gaps-few = omega (arith, b .gaps-few, i .gaps, i .letters, spaces-le (c .after));
+        gaps-few = omega (arith, b .gaps-few, i .gaps, i .letters, spaces-length (c .after));
         sum = weighed-step c (i .state);
         next-weight = e ∙ ap weightAfter (b .next-weight) ∙ sym (weight-snoc firstWeight (b .acc) c);
         small = rw e (weighed-less weight packed q (b .small) lt);

@@ -11,31 +11,12 @@ use lib.Dec.{eqb}
 use lib.ListN.{length, getD, take}
 use lib.Seq.{take-suc}
 use Rattle.words.specs.Word.{spaces}
+use Rattle.words.proofs.Terms.{spaces-append}
 
 -- The empty word has none.
 pub spaces-none : 0 ≡ spaces []
 unfolding spaces
 spaces-none = refl
-
--- The letters 20 of two words, one after the other.
-pub spaces-append : (u v : List ℕ) → spaces (u ++ v) ≡ spaces u + spaces v
-unfolding spaces
-spaces-append [] v = sym (zero-add (spaces v))
-spaces-append (x ∷ u) v = go (eqb x 0x20) (spaces-append u v)
-  where
-    go : (b : Bool) → spaces (u ++ v) ≡ spaces u + spaces v → elim b as (λ x. ℕ) [ true ↦ suc (spaces (u ++ v)) | false ↦ spaces (u ++ v) ] ≡ elim b as (λ x. ℕ) [ true ↦ suc (spaces u) | false ↦ spaces u ] + spaces v
-    go true e = omega arith
-    go false e = e
-
--- They are some of the letters.
-pub spaces-le : (u : List ℕ) → spaces u ≤ length u
-unfolding spaces
-spaces-le [] = omega arith
-spaces-le (x ∷ u) = go (eqb x 0x20) (spaces-le u)
-  where
-    go : (b : Bool) → spaces u ≤ length u → elim b as (λ x. ℕ) [ true ↦ suc (spaces u) | false ↦ spaces u ] ≤ suc (length u)
-    go true h = omega arith
-    go false h = omega arith
 
 -- One letter that is letter 20.
 one : (x : ℕ) → x ≡ 32 → spaces (x ∷ []) ≡ 1

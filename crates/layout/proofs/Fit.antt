@@ -5,20 +5,10 @@ use Prim.Native.Nat.{ℕ, _+_, _*_, _<_}
 use native.Mathlib.Omega.{arith}
 use lib.ListN.{length, length-append}
 use Rattle.machine.specs.Machine.{Row, Table}
-use Rattle.text.specs.Lines.{hexOf, lineOf}
+use Rattle.text.specs.Lines.{lineOf}
+use Rattle.text.proofs.Lines.{length-line}
 use Rattle.text.specs.Writing.{rowFrame, initialFrame, symbolLines, rowLines, writeTable, Limited}
 use Rattle.layout.specs.Layout.{symbolFrames, rowFrames, headFrames, framesOf}
-
--- Two digits a byte.
-length-hex : (bs : List ℕ) → length (hexOf bs) ≡ 2 * length bs
-unfolding hexOf
-length-hex [] = omega arith
-length-hex (b ∷ bs) = omega (arith, length-hex bs)
-
--- A line has two digits a byte and a line feed.
-length-line : (bs : List ℕ) → length (lineOf bs) ≡ 2 * length bs + 1
-unfolding lineOf
-length-line bs = simp length-append (omega (arith, length-hex bs))
 
 -- A symbol's frame has two bytes.
 pub length-symbols : (xs : List ℕ) → length (symbolFrames xs) ≡ 2 * length xs

@@ -9,6 +9,7 @@ use lib.ListN.{length}
 use Rattle.words.specs.Word.{Word, spaces}
 use Rattle.machine.specs.Machine.{Child, Rule, Each}
 use Rattle.layout.proofs.Modest.{Modest}
+use Rattle.words.proofs.Terms.{spaces-length}
 use Rattle.layout.specs.Layout.{restLetters, restSpaces, ruleLetters, ruleSpaces, childState, kidsPacked, entryOf}
 
 -- The numbers that make up x: a below 256, p below 16,384, s below 256, c₀ to c₃ below 64, k below 8.
@@ -39,16 +40,6 @@ digits a p s c₀ c₁ c₂ c₃ k ha hp hs h₀ h₁ h₂ h₃ hk =
       small = omega arith;
     }
 
--- A word has at most as many letters 20 as letters.
-pub spaces-most : (u : Word) → spaces u ≤ length u
-unfolding spaces
-spaces-most [] = omega arith
-spaces-most (x ∷ w) = go (eqb x 0x20) (spaces-most w)
-  where
-    go : (b : Bool) → spaces w ≤ length w → (elim b [ true ↦ suc (spaces w) | false ↦ spaces w ]) ≤ suc (length w)
-    go true h = omega arith
-    go false h = omega arith
-
 -- The rest of a rule writes at most 32 letters a child.
 rest-letters-most : (cs : List Child) → Each (λ c ds. (length (c .after) ≤ 32) × (c .state < 64)) cs → restLetters cs ≤ 32 * length cs
 unfolding restLetters
@@ -59,7 +50,7 @@ rest-letters-most (c ∷ cs) h = let i = rest-letters-most cs (h .1) in omega (a
 rest-spaces-most : (cs : List Child) → restSpaces cs ≤ restLetters cs
 unfolding restSpaces restLetters
 rest-spaces-most [] = omega arith
-rest-spaces-most (c ∷ cs) = omega (arith, spaces-most (c .after), rest-spaces-most cs)
+rest-spaces-most (c ∷ cs) = omega (arith, spaces-length (c .after), rest-spaces-most cs)
 
 -- The state of child j is below 64, also where there is none.
 child-state-small : (cs : List Child) (j : ℕ) → Each (λ c ds. (length (c .after) ≤ 32) × (c .state < 64)) cs → childState cs j < 64
@@ -76,7 +67,7 @@ letters-most {r} m = omega (arith, m .first, m .kids, rest-letters-most (r .rest
 -- A rule writes at most as many letters 20 as letters.
 pub spaces-below-letters : (r : Rule) → ruleSpaces r ≤ ruleLetters r
 unfolding ruleSpaces ruleLetters
-spaces-below-letters r = omega (arith, spaces-most (r .first), rest-spaces-most (r .rest))
+spaces-below-letters r = omega (arith, spaces-length (r .first), rest-spaces-most (r .rest))
 
 -- What is read off the entry x of a rule r whose bytes stand at p: its letters, p, its letters 20, its children.
 abbrev pub Unpacked : ℕ → Rule → ℕ → Type 0

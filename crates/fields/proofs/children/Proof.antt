@@ -4,7 +4,7 @@ use Prim.Native.Nat.{_<_, _≤_}
 use native.Mathlib.Omega.{arith}
 use lib.Seq.{slice}
 use Rattle.fields.specs.Read.{oneChild}
-use Rattle.fields.proofs.Spaces.{spaces-le}
+use Rattle.words.proofs.Terms.{spaces-length}
 use Rattle.fields.proofs.Family as child
 use Rattle.fields.proofs.Packed as packed
 use Rattle.fields.proofs.Siblings as law
@@ -65,7 +65,7 @@ state-small c =
 
 -- Its letters 20 are some of its letters.
 gaps-small : (c : tie.After-known-told Inv-loop μ-loop) → c .before .got .given .0 .1 .1 .1 .0 ≤ 32
-gaps-small c = let i = given c in omega (arith, i .gaps, i .letters, i .short, spaces-le (i .child .after))
+gaps-small c = let i = given c in omega (arith, i .gaps, i .letters, i .short, spaces-length (i .child .after))
 
 -- Its weight is at most that of bit 48.
 weight-small : (c : tie.After-known-told Inv-loop μ-loop) → c .before .before .before .before .before .loop .weight ≤ 281474976710656
