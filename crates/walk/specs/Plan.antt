@@ -1,0 +1,25 @@
+-- The plan of a tree: for each position where the rule stands that writes there. Definitions only.
+use mathlib.Core.Path.{_≡_}
+use mathlib.Core.List.{List, [], _∷_}
+use mathlib.Core.Option.{some}
+use Prim.Native.Nat.{ℕ, suc, _+_, _/_, _%_}
+use lib.ListN.{length, getD}
+use Rattle.machine.specs.Machine.{Tree, Forest, node, ∅, _▸_, Child, Rule, Table, find}
+use Rattle.trees.specs.Preorder.{preorder}
+use Rattle.layout.specs.Leaves.{RuleAt}
+
+-- The plan's number at a position names rule r: where its bytes stand, and from 16,384 on how many children it has.
+pub record Names (F : List ℕ) (x : ℕ) (r : Rule) : Type 0 where
+  pub there : RuleAt F (x % 16384) r
+  pub kids : x / 16384 ≡ length (r .rest)
+
+-- The plan P names, for each symbol of the tree at `at`, the rule of the state that comes to it, from state q at the root on.
+unfoldable mutual
+  pub Planned : List ℕ → List ℕ → Table → Tree → ℕ → ℕ → Type 0
+  Planned F P M (node f ts) q at = (r : Rule) × (find (M .rows) q f ≡ some r) × Names F (getD P at 0) r × Planneds F P M ts (r .rest) (suc at)
+
+  pub Planneds : List ℕ → List ℕ → Table → Forest → List Child → ℕ → Type 0
+  Planneds F P M ∅ [] at = Unit {0}
+  Planneds F P M ∅ (c ∷ cs) at = ⊥
+  Planneds F P M (t ▸ ts) [] at = ⊥
+  Planneds F P M (t ▸ ts) (c ∷ cs) at = Planned F P M t (c .state) at × Planneds F P M ts cs (at + length (preorder t))
