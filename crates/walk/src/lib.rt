@@ -130,7 +130,7 @@ pub fn eval(
         let state = layout::wide(layout::byte(frames, pos));
         let Step::Wrote {
             letters,
-            next: after,
+            next: past,
         } = eval(
             levels - 1,
             frames,
@@ -148,7 +148,7 @@ pub fn eval(
             return Step::Lost;
         }
         end = put(word, room, end + letters);
-        next = after;
+        next = past;
         pos = layout::behind(frames, pos + 1);
         left -= 1;
     }
