@@ -1,83 +1,64 @@
--- The states of a rule's children in one number: a weighed sum, child by child.
+-- The states of a rule's children in one number, child by child.
 use mathlib.Core.Path.{_≡_, refl}
-use mathlib.Core.Bool.{Bool, true, false}
 use mathlib.Core.List.{List, [], _∷_, _++_}
-use Prim.Native.Nat.{ℕ, _+_, _*_, _<_, _≤_}
-use native.Mathlib.Nat.{mul-le-mul-left}
+use Prim.Native.Nat.{ℕ, zero, suc, _+_, _*_, _^_, _<_, _≤_}
 use native.Mathlib.Omega.{arith}
-use borrow.Author.Tests.{eqb-true}
-use lib.Dec.{eqb}
 use lib.ListN.{length}
 use Rattle.machine.specs.Machine.{Child}
-use Rattle.layout.specs.Layout.{childState, kidsPacked}
-use Rattle.fields.specs.Read.{weightAfter}
+use Rattle.layout.specs.Layout.{firstState, folded, laterStates, kidsPacked}
+use Rattle.fields.specs.Read.{FirstAfter, RestAfter}
 
--- The weight of the first child's state.
-abbrev pub firstWeight : ℕ
-firstWeight = 4194304
+-- One state more stands lowest.
+folded-snoc : (n : ℕ) (cs : List Child) (c : Child) → folded n (cs ++ c ∷ []) ≡ folded n cs * 64 + c .state
+unfolding folded
+folded-snoc n [] c = refl
+folded-snoc n (d ∷ cs) c = folded-snoc (n * 64 + d .state) cs c
 
--- The sum of the children's states, the first of them with weight w.
-unfoldable pub weighed : ℕ → List Child → ℕ
-weighed w [] = 0
-weighed w (c ∷ cs) = w * c .state + weighed (weightAfter w) cs
+-- One child more: the first child's state.
+pub first-snoc : (cs : List Child) (c : Child) (done first q r : ℕ) → done ≡ length cs → first ≡ firstState cs → q ≡ c .state → FirstAfter done first q r
+    → r ≡ firstState (cs ++ c ∷ [])
+unfolding firstState
+first-snoc [] c done first q r l e f a = omega (arith, a .new (omega arith))
+first-snoc (d ∷ cs) c done first q r l e f a = omega (arith, a .kept (omega arith))
 
--- The weight behind these children.
-unfoldable pub weightBehind : ℕ → List Child → ℕ
-weightBehind w [] = w
-weightBehind w (c ∷ cs) = weightBehind (weightAfter w) cs
+-- One child more: the other children's states.
+pub later-snoc : (cs : List Child) (c : Child) (done rest q r : ℕ) → done ≡ length cs → rest ≡ laterStates cs → q ≡ c .state → RestAfter done rest q r
+    → r ≡ laterStates (cs ++ c ∷ [])
+unfolding laterStates folded
+later-snoc [] c done rest q r l e f a = omega (arith, a .kept (omega arith))
+later-snoc (d ∷ cs) c done rest q r l e f a = omega (arith, a .longer (omega arith), folded-snoc 0 cs c)
 
--- One child more counts with the weight behind the others.
-pub weighed-snoc : (w : ℕ) (cs : List Child) (c : Child) → weighed w (cs ++ c ∷ []) ≡ weighed w cs + weightBehind w cs * c .state
-unfolding weighed weightBehind
-weighed-snoc w [] c = omega arith
-weighed-snoc w (d ∷ cs) c = omega (arith, weighed-snoc (weightAfter w) cs c)
+-- How large the other children's states are together, where there are n children in all.
+pub record Room (n rest : ℕ) : Type 0 where
+  pub one : n ≤ 1 → rest ≡ 0
+  pub two : n ≤ 2 → rest < 64
+  pub three : n ≤ 3 → rest < 4096
+  pub four : n ≤ 4 → rest < 262144
 
--- The weight behind one child more.
-pub weight-snoc : (w : ℕ) (cs : List Child) (c : Child) → weightBehind w (cs ++ c ∷ []) ≡ weightAfter (weightBehind w cs)
-unfolding weightBehind
-weight-snoc w [] c = refl
-weight-snoc w (d ∷ cs) c = weight-snoc (weightAfter w) cs c
+-- No child.
+pub room-none : Room 0 0
+room-none = record { one = λ h. refl; two = λ h. omega arith; three = λ h. omega arith; four = λ h. omega arith }
 
--- A weight has room for a state below 64 before the next.
-pub weight-room : (w : ℕ) → 64 * w ≤ weightAfter w
-weight-room w = go (eqb w 4194304) refl
-  where
-    go : (b : Bool) → eqb w 4194304 ≡ b → 64 * w ≤ elim b as (λ x. ℕ) [ true ↦ 68719476736 | false ↦ w * 64 ]
-    go true e = omega (arith, eqb-true w 4194304 e)
-    go false e = omega arith
+-- A first child takes no room among the others, a further one a factor 64.
+room-first : (rest r : ℕ) → r ≡ rest → Room 0 rest → Room 1 r
+room-first rest r e m = let z : rest ≡ 0 = m .one (omega arith) in record { one = λ h. omega arith; two = λ h. omega arith; three = λ h. omega arith; four = λ h. omega arith }
 
--- A state below 64 times a weight.
-pub weight-state : (w q : ℕ) → q < 64 → w * q ≤ 63 * w
-weight-state w q h = let k : q ≤ 63 = omega arith in omega (arith, mul-le-mul-left w k)
+room-further : (n rest q r : ℕ) → 0 < n → q < 64 → r ≡ rest * 64 + q → Room n rest → Room (n + 1) r
+room-further n rest q r p k e m =
+    record {
+      one = λ h. absurd (omega arith);
+      two = λ h. omega (arith, m .one (omega arith));
+      three = λ h. omega (arith, m .two (omega arith));
+      four = λ h. omega (arith, m .three (omega arith));
+    }
 
--- So a sum that is less than the weight stays so.
-pub weighed-less : (w p q : ℕ) → p < w → q < 64 → p + w * q < weightAfter w
-weighed-less w p q h k = omega (arith, weight-room w, weight-state w q k)
+-- One child more.
+pub room-more : (n rest q r : ℕ) → q < 64 → RestAfter n rest q r → Room n rest → Room (n + 1) r
+room-more zero rest q r k a m = room-first rest r (a .kept refl) m
+room-more (suc n) rest q r k a m = room-further (suc n) rest q r (omega arith) k (a .longer (omega arith)) m
 
--- The weights are those of bits 22, 36, 42 and 48, and then 54.
-pub weight-most : (cs : List Child) → length cs ≤ 3 → weightBehind firstWeight cs ≤ 281474976710656
-unfolding weightBehind
-weight-most [] h = omega arith
-weight-most (a ∷ []) h = omega arith
-weight-most (a ∷ b ∷ []) h = omega arith
-weight-most (a ∷ b ∷ c ∷ []) h = omega arith
-weight-most (a ∷ b ∷ c ∷ d ∷ cs) h = absurd (omega arith)
-
-pub weight-last : (cs : List Child) → length cs ≤ 4 → weightBehind firstWeight cs ≤ 18014398509481984
-unfolding weightBehind
-weight-last [] h = omega arith
-weight-last (a ∷ []) h = omega arith
-weight-last (a ∷ b ∷ []) h = omega arith
-weight-last (a ∷ b ∷ c ∷ []) h = omega arith
-weight-last (a ∷ b ∷ c ∷ d ∷ []) h = omega arith
-weight-last (a ∷ b ∷ c ∷ d ∷ e ∷ cs) h = absurd (omega arith)
-
--- For at most four children the sum, with their number from bit 54 on, is what the index holds.
-pub weighed-packed : (cs : List Child) → length cs ≤ 4 → weighed firstWeight cs + length cs * 18014398509481984 ≡ kidsPacked cs
-unfolding weighed kidsPacked childState
-weighed-packed [] h = omega arith
-weighed-packed (a ∷ []) h = omega arith
-weighed-packed (a ∷ b ∷ []) h = omega arith
-weighed-packed (a ∷ b ∷ c ∷ []) h = omega arith
-weighed-packed (a ∷ b ∷ c ∷ d ∷ []) h = omega arith
-weighed-packed (a ∷ b ∷ c ∷ d ∷ e ∷ cs) h = absurd (omega arith)
+-- The number of at most four children.
+pub packed-right : (cs : List Child) (first rest count x : ℕ) → first ≡ firstState cs → rest ≡ laterStates cs → length cs ≡ count → x ≡ first * 4194304 + rest * 68719476736 + count * 18014398509481984
+    → x ≡ kidsPacked cs
+unfolding kidsPacked
+packed-right cs first rest count x e f l d = omega arith

@@ -1,21 +1,21 @@
 -- The children's fields, one child after the other.
 use mathlib.Core.Path.{_≡_, refl, sym, ap, _∙_}
 use mathlib.Core.List.{List, [], _∷_, _++_, append-nil}
-use Prim.Native.Nat.{ℕ, zero, suc, _+_, _-_, _*_, _<_, _≤_}
+use Prim.Native.Nat.{ℕ, zero, suc, _+_, _-_, _*_, _^_, _<_, _≤_}
 use native.Mathlib.Numerals.{sub-one}
 use native.Mathlib.Omega.{arith}
 use lib.ListN.{length, length-append}
 use lib.Seq.{slice, append-snoc}
 use Rattle.words.specs.Word.{spaces}
 use Rattle.machine.specs.Machine.{Child}
-use Rattle.layout.specs.Layout.{restLetters, restSpaces}
+use Rattle.layout.specs.Layout.{restLetters, restSpaces, firstState, laterStates}
 use Rattle.text.specs.Fields.{Parsed, got, fault, Field, andThen, below, text, children}
 use Rattle.text.proofs.Fields.{then-inv}
-use Rattle.fields.specs.Read.{oneChild, weightAfter, Family, KidsRead}
+use Rattle.fields.specs.Read.{oneChild, Family, KidsRead, FirstAfter, RestAfter}
 use Rattle.fields.specs.declared.Kids.{Kids}
 use Rattle.fields.specs.declared.Kids.the-variants as kids
 use Rattle.words.proofs.Terms.{spaces-length}
-use Rattle.fields.proofs.Packed.{firstWeight, weighed, weightBehind, weighed-snoc, weight-snoc, weighed-less, weight-last, weighed-packed}
+use Rattle.fields.proofs.Packed.{first-snoc, later-snoc, Room, room-none, room-more, packed-right}
 use Rattle.fields.proofs.Family.{IsChild, child-below}
 
 -- Children in front of others.
@@ -82,83 +82,84 @@ spaces-snoc (d ∷ cs) c = omega (arith, spaces-snoc cs c)
 -- ---- all steps so far
 
 -- The children acc are read, and `left` children are to be read from `next` on.
-pub record Begun (F : List ℕ) (at end states count next letters gaps packed weight left : ℕ) : Type 0 where
+pub record Begun (F : List ℕ) (at end states count next letters gaps first rest left : ℕ) : Type 0 where
   pub acc : List Child
   pub number : length acc + left ≡ count
   pub from : at ≤ next
   pub inside : next ≤ end
-  pub rest : children states count (slice at end F) ≡ front acc (children states left (slice next end F))
+  pub remains : children states count (slice at end F) ≡ front acc (children states left (slice next end F))
   pub all-letters : letters ≡ restLetters acc
   pub all-gaps : gaps ≡ restSpaces acc
   pub few : letters ≤ 32 * length acc
   pub gaps-few : gaps ≤ letters
-  pub sum : packed ≡ weighed firstWeight acc
-  pub next-weight : weight ≡ weightBehind firstWeight acc
-  pub small : packed < weight
+  pub first-state : first ≡ firstState acc
+  pub first-small : first < 64
+  pub later-states : rest ≡ laterStates acc
+  pub room : Room (length acc) rest
 
 -- Nothing is read yet.
-pub begin : (F : List ℕ) (at end states count : ℕ) → at ≤ end → Begun F at end states count at 0 0 0 firstWeight count
-unfolding restLetters restSpaces weighed weightBehind
+pub begin : (F : List ℕ) (at end states count : ℕ) → at ≤ end → Begun F at end states count at 0 0 0 0 count
+unfolding restLetters restSpaces firstState laterStates
 begin F at end states count h = record {
   acc = [];
   number = omega arith;
   from = omega arith;
   inside = h;
-  rest = front-none _;
+  remains = front-none _;
   all-letters = refl;
   all-gaps = refl;
   few = omega arith;
   gaps-few = omega arith;
-  sum = refl;
-  next-weight = refl;
-  small = omega arith;
+  first-state = refl;
+  first-small = omega arith;
+  later-states = refl;
+  room = room-none;
 }
 
-module _ {F : List ℕ} {at end states count next letters gaps packed weight left : ℕ} (b : Begun F at end states count next letters gaps packed weight left) where
+module _ {F : List ℕ} {at end states count next letters gaps first rest left : ℕ} (b : Begun F at end states count next letters gaps first rest left) where
   -- A child is refused.
   pub begun-fault : (k n : ℕ) → 0 < left → oneChild states (slice next end F) ≡ fault k → n ≡ k → KidsRead F at end (children states count (slice at end F)) (kids.Fault n)
-  begun-fault k n h e f = rw (b .rest, children-fault states left (slice next end F) k h e) f
+  begun-fault k n h e f = rw (b .remains, children-fault states left (slice next end F) k h e) f
 
   -- A child is read.
-  pub begun-more : (q then n s w : ℕ) → 0 < left → states ≤ 64 → IsChild F next end q then n s (oneChild states (slice next end F)) → w ≡ weightAfter weight
-      → Begun F at end states count then (letters + n) (gaps + s) (packed + weight * q) w (left - 1)
-  begun-more q then n s w h k i e =
+  pub begun-more : (q then n s v w : ℕ) → 0 < left → states ≤ 64 → IsChild F next end q then n s (oneChild states (slice next end F)) → FirstAfter (count - left) first q v → RestAfter (count - left) rest q w
+      → Begun F at end states count then (letters + n) (gaps + s) v w (left - 1)
+  begun-more q then n s v w h k i x y =
       let c : Child = i .child in
       let l = length-append (b .acc) (c ∷ []) in
+      let done : count - left ≡ length (b .acc) = omega (arith, b .number) in
       let lt : q < 64 = omega (arith, child-below states (slice next end F) c (slice then end F) (i .read), i .state) in
       record {
         acc = b .acc ++ c ∷ [];
         number = omega (arith, b .number, l);
         from = omega (arith, b .from, i .next);
         inside = i .inside;
-        rest = b .rest ∙ ap (front (b .acc)) (children-more states left (slice next end F) c (slice then end F) h (i .read)) ∙ front-snoc (b .acc) c (children states (left - 1) (slice then end F));
+        remains = b .remains ∙ ap (front (b .acc)) (children-more states left (slice next end F) c (slice then end F) h (i .read)) ∙ front-snoc (b .acc) c (children states (left - 1) (slice then end F));
         all-letters = omega (arith, b .all-letters, i .letters, letters-snoc (b .acc) c);
         all-gaps = omega (arith, b .all-gaps, i .gaps, spaces-snoc (b .acc) c);
         few = omega (arith, b .few, i .short, l);
         gaps-few = omega (arith, b .gaps-few, i .gaps, i .letters, spaces-length (c .after));
-        sum = weighed-step c (i .state);
-        next-weight = e ∙ ap weightAfter (b .next-weight) ∙ sym (weight-snoc firstWeight (b .acc) c);
-        small = rw e (weighed-less weight packed q (b .small) lt);
+        first-state = first-snoc (b .acc) c (count - left) first q v done (b .first-state) (i .state) x;
+        first-small = x .small;
+        later-states = later-snoc (b .acc) c (count - left) rest q w done (b .later-states) (i .state) y;
+        room = rw l (room-more (length (b .acc)) rest q w lt (rw done at y) (b .room));
       }
-    where
-      weighed-step : (c : Child) → q ≡ c .state → packed + weight * q ≡ weighed firstWeight (b .acc ++ c ∷ [])
-      weighed-step c f = rw (b .sum, b .next-weight, f) (sym (weighed-snoc firstWeight (b .acc) c))
 
   -- All children are read.
-  pub begun-all : left ≤ 0 → count ≤ 4 → KidsRead F at end (children states count (slice at end F)) (kids.Got next letters gaps (packed + count * 18014398509481984))
-  begun-all h k =
+  pub begun-all : (x : ℕ) → left ≤ 0 → count ≤ 4 → x ≡ first * 4194304 + rest * 68719476736 + count * 18014398509481984 → x < 2 ^ 57 → KidsRead F at end (children states count (slice at end F)) (kids.Got next letters gaps x)
+  begun-all x h k e m =
       let l : length (b .acc) ≡ count = omega (arith, b .number) in
-      let r : children states count (slice at end F) ≡ got (b .acc) (slice next end F) = b .rest ∙ ap (front (b .acc)) (children-none states left (slice next end F) h) ∙ ap (λ x. got x (slice next end F)) (append-nil (b .acc)) in
+      let r : children states count (slice at end F) ≡ got (b .acc) (slice next end F) = b .remains ∙ ap (front (b .acc)) (children-none states left (slice next end F) h) ∙ ap (λ x. got x (slice next end F)) (append-nil (b .acc)) in
       rw r (record {
         left = refl;
         from = b .from;
         inside = b .inside;
         letters = b .all-letters;
         gaps = b .all-gaps;
-        packed = rw (b .sum, ← l) (weighed-packed (b .acc) (omega arith));
+        packed = packed-right (b .acc) first rest count x (b .first-state) (b .later-states) l e;
         few = omega (arith, b .few);
         gaps-few = b .gaps-few;
-        small = omega (arith, b .small, b .next-weight, weight-last (b .acc) (omega arith));
+        small = m;
       })
 
 -- ---- from the answer to what is read

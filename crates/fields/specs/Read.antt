@@ -1,7 +1,5 @@
 -- What reading a field at a place of the decoded bytes answers. Definitions only.
 use mathlib.Core.Path.{_≡_}
-use mathlib.Core.Bool.{true, false}
-use lib.Dec.{eqb}
 use mathlib.Core.List.{List, [], _∷_}
 use Prim.Native.Nat.{ℕ, _+_, _*_, _^_, _≤_, _<_}
 use lib.ListN.{length}
@@ -100,6 +98,12 @@ abbrev pub kidsFaultOf : Kids → ℕ
 kidsFaultOf (kids.Got then n s x) = 0
 kidsFaultOf (kids.Fault n) = n
 
--- What the next child's state counts for in the packed number.
-abbrev pub weightAfter : ℕ → ℕ
-weightAfter w = elim (eqb w 4194304) [ true ↦ 68719476736 | false ↦ w * 64 ]
+-- One child more, behind `done` others: what the first child's state is then, and the states of the children behind it in one number.
+pub record FirstAfter (done first state r : ℕ) : Type 0 where
+  pub new : done ≡ 0 → r ≡ state
+  pub kept : 0 < done → r ≡ first
+  pub small : r < 64
+
+pub record RestAfter (done rest state r : ℕ) : Type 0 where
+  pub kept : done ≡ 0 → r ≡ rest
+  pub longer : 0 < done → r ≡ rest * 64 + state

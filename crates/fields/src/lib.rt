@@ -1,12 +1,12 @@
 // The fields of a frame, read from left to right: each answers its value and where the next one
 // stands, or a number of no.
 ghost use mathlib.Core.Path.{_≡_};
-ghost use Prim.Native.Nat.{_+_, _*_, _<_, _≤_};
+ghost use Prim.Native.Nat.{_+_, _*_, _^_, _<_, _≤_};
 ghost use lib.ListN.{length};
 ghost use lib.Seq.{slice};
 ghost use Rattle.words.specs.Word.{spaces};
 ghost use Rattle.text.specs.Fields as text;
-ghost use Rattle.fields.specs.Read.{NumberRead, WordRead, oneChild, ChildRead, KidsRead, faultOf, childFaultOf, kidsFaultOf, weightAfter};
+ghost use Rattle.fields.specs.Read.{NumberRead, WordRead, oneChild, ChildRead, KidsRead, faultOf, childFaultOf, kidsFaultOf, FirstAfter, RestAfter};
 
 // A field's value (of a word, its length) and where the next field stands; or a number of no.
 pub enum Field {
@@ -165,16 +165,28 @@ fn child(frames: &[u8], at: usize, end: usize, states: usize) -> OneChild
     }
 }
 
-// What a child's state counts for in the packed number: bits 22, 36, 42 and 48 on.
-fn weight_after(weight: u64) -> u64
-    requires { ⌜ weight ≤ 281474976710656 ⌝ }
-    ensures { λ r. ⌜ r ≡ weightAfter weight ⌝ }
+// The first child's state, where `done` children came before this one.
+fn first_after(done: usize, first: u64, state: u64) -> u64
+    requires { ⌜ (first < 64) × (state < 64) ⌝ }
+    ensures { λ r. ⌜ FirstAfter done first state r ⌝ }
 {
-    if weight == 4194304 {
-        68719476736
-    } else {
-        weight * 64
-    }
+    if done == 0 { state } else { first }
+}
+
+// The states of the children behind the first, where `done` children came before this one.
+fn rest_after(done: usize, rest: u64, state: u64) -> u64
+    requires { ⌜ (rest < 262144) × (state < 64) ⌝ }
+    ensures { λ r. ⌜ RestAfter done rest state r ⌝ }
+{
+    if done == 0 { rest } else { rest * 64 + state }
+}
+
+// The children's states and their number in one number.
+fn packed_of(first: u64, rest: u64, count: usize) -> u64
+    requires { ⌜ (first < 64) × (rest < 262144) × (count ≤ 4) ⌝ }
+    ensures { λ r. ⌜ (r ≡ first * 4194304 + rest * 68719476736 + count * 18014398509481984) × (r < 2 ^ 57) ⌝ }
+{
+    first * 4194304 + rest * 68719476736 + (count as u64) * 18014398509481984
 }
 
 // The children of a rule, for each its state and a word.
@@ -186,8 +198,8 @@ pub fn children(frames: &[u8], at: usize, end: usize, states: usize, count: usiz
     let mut next = at;
     let mut letters: usize = 0;
     let mut gaps: usize = 0;
-    let mut packed: u64 = 0;
-    let mut weight: u64 = 4194304;
+    let mut first: u64 = 0;
+    let mut rest: u64 = 0;
     let mut left = count;
     while 0 < left {
         let got = child(frames, next, end, states);
@@ -202,8 +214,8 @@ pub fn children(frames: &[u8], at: usize, end: usize, states: usize, count: usiz
                 number: fault_number(got),
             };
         };
-        packed += weight * (state as u64);
-        weight = weight_after(weight);
+        first = first_after(count - left, first, state as u64);
+        rest = rest_after(count - left, rest, state as u64);
         letters += more;
         gaps += apart;
         next = after;
@@ -213,7 +225,7 @@ pub fn children(frames: &[u8], at: usize, end: usize, states: usize, count: usiz
         next,
         letters,
         gaps,
-        packed: packed + (count as u64) * 18014398509481984,
+        packed: packed_of(first, rest, count),
     }
 }
 

@@ -10,33 +10,33 @@ use Rattle.words.specs.Word.{Word, spaces}
 use Rattle.machine.specs.Machine.{Child, Rule, Each}
 use Rattle.layout.proofs.Modest.{Modest}
 use Rattle.words.proofs.Terms.{spaces-length}
-use Rattle.layout.specs.Layout.{restLetters, restSpaces, ruleLetters, ruleSpaces, childState, kidsPacked, entryOf}
+use Rattle.layout.specs.Layout.{restLetters, restSpaces, ruleLetters, ruleSpaces, firstState, folded, laterStates, kidsPacked, entryOf}
 
--- The numbers that make up x: a below 256, p below 16,384, s below 256, c₀ to c₃ below 64, k below 8.
-pub record Digits (a p s c₀ c₁ c₂ c₃ k x : ℕ) : Type 0 where
+-- The numbers that make up x: a below 256, p below 16,384, s below 256, c below 64, e below 262,144, k below 8.
+pub record Digits (a p s c e k x : ℕ) : Type 0 where
   pub letters : x % 256 ≡ a
   pub place : x / 256 % 16384 ≡ p
   pub spaces : x / 268435456 % 256 ≡ s
   pub kids : x / 18014398509481984 % 8 ≡ k
-  pub child₀ : x / 4194304 % 64 ≡ c₀
-  pub child₁ : x / 68719476736 % 64 ≡ c₁
-  pub child₂ : x / 4398046511104 % 64 ≡ c₂
-  pub child₃ : x / 281474976710656 % 64 ≡ c₃
+  pub first : x / 4194304 % 64 ≡ c
+  pub last : x / 68719476736 % 64 ≡ e % 64
+  pub second-last : x / 4398046511104 % 64 ≡ e / 64 % 64
+  pub third-last : x / 281474976710656 % 64 ≡ e / 4096 % 64
   pub small : x < 2 ^ 57
 
 -- Numbers below their bounds are read off their packed sum.
-pub digits : (a p s c₀ c₁ c₂ c₃ k : ℕ) → a < 256 → p < 16384 → s < 256 → c₀ < 64 → c₁ < 64 → c₂ < 64 → c₃ < 64 → k < 8
-    → Digits a p s c₀ c₁ c₂ c₃ k (a + 256 * p + 2 ^ 28 * s + (2 ^ 22 * c₀ + (2 ^ 36 * c₁ + (2 ^ 42 * c₂ + (2 ^ 48 * c₃ + 2 ^ 54 * k)))))
-digits a p s c₀ c₁ c₂ c₃ k ha hp hs h₀ h₁ h₂ h₃ hk =
+pub digits : (a p s c e k : ℕ) → a < 256 → p < 16384 → s < 256 → c < 64 → e < 262144 → k < 8
+    → Digits a p s c e k (a + 256 * p + 2 ^ 28 * s + (2 ^ 22 * c + (2 ^ 36 * e + 2 ^ 54 * k)))
+digits a p s c e k ha hp hs hc he hk =
     record {
       letters = omega arith;
       place = omega arith;
       spaces = omega arith;
       kids = omega arith;
-      child₀ = omega arith;
-      child₁ = omega arith;
-      child₂ = omega arith;
-      child₃ = omega arith;
+      first = omega arith;
+      last = omega arith;
+      second-last = omega arith;
+      third-last = omega arith;
       small = omega arith;
     }
 
@@ -52,12 +52,21 @@ unfolding restSpaces restLetters
 rest-spaces-most [] = omega arith
 rest-spaces-most (c ∷ cs) = omega (arith, spaces-length (c .after), rest-spaces-most cs)
 
--- The state of child j is below 64, also where there is none.
-child-state-small : (cs : List Child) (j : ℕ) → Each (λ c ds. (length (c .after) ≤ 32) × (c .state < 64)) cs → childState cs j < 64
-unfolding childState
-child-state-small [] j h = omega arith
-child-state-small (c ∷ cs) zero h = h .0 .1
-child-state-small (c ∷ cs) (suc j) h = child-state-small cs j (h .1)
+-- The first child's state is below 64, also where there is none.
+first-state-small : (cs : List Child) → Each (λ c ds. (length (c .after) ≤ 32) × (c .state < 64)) cs → firstState cs < 64
+unfolding firstState
+first-state-small [] h = omega arith
+first-state-small (c ∷ cs) h = h .0 .1
+
+-- The states of the three other children are below 262,144 together.
+later-states-small : (cs : List Child) → length cs ≤ 4 → Each (λ c ds. (length (c .after) ≤ 32) × (c .state < 64)) cs → laterStates cs < 262144
+unfolding laterStates folded
+later-states-small [] l h = omega arith
+later-states-small (a ∷ []) l h = omega arith
+later-states-small (a ∷ b ∷ []) l h = omega (arith, h .1 .0 .1)
+later-states-small (a ∷ b ∷ c ∷ []) l h = omega (arith, h .1 .0 .1, h .1 .1 .0 .1)
+later-states-small (a ∷ b ∷ c ∷ d ∷ []) l h = omega (arith, h .1 .0 .1, h .1 .1 .0 .1, h .1 .1 .1 .0 .1)
+later-states-small (a ∷ b ∷ c ∷ d ∷ e ∷ cs) l h = absurd (omega arith)
 
 -- A modest rule writes at most 160 letters itself.
 pub letters-most : {r : Rule} → Modest r → ruleLetters r ≤ 160
@@ -71,17 +80,15 @@ spaces-below-letters r = omega (arith, spaces-length (r .first), rest-spaces-mos
 
 -- What is read off the entry x of a rule r whose bytes stand at p: its letters, p, its letters 20, its children.
 abbrev pub Unpacked : ℕ → Rule → ℕ → Type 0
-Unpacked p r x =
-    Digits (ruleLetters r) p (ruleSpaces r) (childState (r .rest) 0) (childState (r .rest) 1) (childState (r .rest) 2) (childState (r .rest) 3) (length (r .rest)) x
+Unpacked p r x = Digits (ruleLetters r) p (ruleSpaces r) (firstState (r .rest)) (laterStates (r .rest)) (length (r .rest)) x
 
 -- A modest rule's entry unpacks to the rule's numbers.
 pub entry-unpacks : (p : ℕ) {r : Rule} → Modest r → p < 16384 → Unpacked p r (entryOf p r)
 unfolding entryOf kidsPacked
 entry-unpacks p {r} m hp =
     let cs = r .rest in
-    let small : (j : ℕ) → childState cs j < 64 = λ j. child-state-small cs j (m .rest) in
-    digits (ruleLetters r) p (ruleSpaces r) (childState cs 0) (childState cs 1) (childState cs 2) (childState cs 3) (length cs) (omega (arith, letters-most m)) hp
-    (omega (arith, letters-most m, spaces-below-letters r)) (small 0) (small 1) (small 2) (small 3) (omega (arith, m .kids))
+    digits (ruleLetters r) p (ruleSpaces r) (firstState cs) (laterStates cs) (length cs) (omega (arith, letters-most m)) hp
+    (omega (arith, letters-most m, spaces-below-letters r)) (first-state-small cs (m .rest)) (later-states-small cs (omega (arith, m .kids)) (m .rest)) (omega (arith, m .kids))
 
 -- An entry is not 0, since a rule's bytes never stand at the start.
 pub entry-positive : (p : ℕ) (r : Rule) → 0 < p → 0 < entryOf p r

@@ -54,16 +54,24 @@ ruleLetters r = length (r .first) + restLetters (r .rest)
 unfoldable pub ruleSpaces : Rule → ℕ
 ruleSpaces r = spaces (r .first) + restSpaces (r .rest)
 
--- The state of child j, 0 if there is none.
-unfoldable pub childState : List Child → ℕ → ℕ
-childState [] j = 0
-childState (c ∷ cs) zero = c .state
-childState (c ∷ cs) (suc j) = childState cs j
+-- The state of the first child, 0 if there is none.
+unfoldable pub firstState : List Child → ℕ
+firstState [] = 0
+firstState (c ∷ cs) = c .state
 
--- The four child states and the number of children, in one number: from bit 22, 36, 42, 48 and 54 on.
+-- Behind n, states one after the other in one number, six bits each, the last lowest.
+unfoldable pub folded : ℕ → List Child → ℕ
+folded n [] = n
+folded n (c ∷ cs) = folded (n * 64 + c .state) cs
+
+-- The states of the children behind the first in one number, the last lowest.
+unfoldable pub laterStates : List Child → ℕ
+laterStates [] = 0
+laterStates (c ∷ cs) = folded 0 cs
+
+-- The child states and the number of children, in one number: the first child's state from bit 22 on, the others' from bit 36 on, the number from bit 54 on.
 unfoldable pub kidsPacked : List Child → ℕ
-kidsPacked cs =
-    2 ^ 22 * childState cs 0 + (2 ^ 36 * childState cs 1 + (2 ^ 42 * childState cs 2 + (2 ^ 48 * childState cs 3 + 2 ^ 54 * length cs)))
+kidsPacked cs = 2 ^ 22 * firstState cs + (2 ^ 36 * laterStates cs + 2 ^ 54 * length cs)
 
 -- The entry of a rule whose bytes stand at p: its letters, p from bit 8 on, its letters 20 from bit 28 on, its children. It is never 0, since p is not.
 unfoldable pub entryOf : ℕ → Rule → ℕ

@@ -6,17 +6,16 @@ use lib.Seq.{slice}
 use Rattle.fields.specs.Read.{oneChild}
 use Rattle.words.proofs.Terms.{spaces-length}
 use Rattle.fields.proofs.Family as child
-use Rattle.fields.proofs.Packed as packed
 use Rattle.fields.proofs.Siblings as law
 use Rattle.fields.proofs.Siblings.{Begun}
 use Rattle.fields.proofs.children.Statement.{statement}
 use Rattle.fields.proofs.children.Tie as tie
 
 abbrev Inv-loop : tie.InvT-loop
-Inv-loop frames at end states count next₀ letters₀ gaps₀ packed₀ weight₀ left₀ next letters gaps packed weight left = Begun frames at end states count next letters gaps packed weight left
+Inv-loop frames at end states count next₀ letters₀ gaps₀ first₀ rest₀ left₀ next letters gaps first rest left = Begun frames at end states count next letters gaps first rest left
 
 abbrev μ-loop : tie.MeasureT-loop
-μ-loop frames at end states count next₀ letters₀ gaps₀ packed₀ weight₀ left₀ next letters gaps packed weight left = left
+μ-loop frames at end states count next₀ letters₀ gaps₀ first₀ rest₀ left₀ next letters gaps first rest left = left
 
 loop-holds : tie.Need-loop-holds Inv-loop μ-loop
 loop-holds c =
@@ -67,32 +66,33 @@ state-small c =
 gaps-small : (c : tie.After-known-told Inv-loop μ-loop) → c .before .got .given .0 .1 .1 .1 .0 ≤ 32
 gaps-small c = let i = given c in omega (arith, i .gaps, i .letters, i .short, spaces-length (i .child .after))
 
--- Its weight is at most that of bit 48.
-weight-small : (c : tie.After-known-told Inv-loop μ-loop) → c .before .before .before .before .before .loop .weight ≤ 281474976710656
-weight-small c =
+-- The other states before it have room.
+rest-small : (c : tie.After-known-told Inv-loop μ-loop) → c .before .before .before .before .before .loop .rest < 262144
+rest-small c =
     let b = c .before .before .before .before .before .loop .inv in
-    omega (arith, b .next-weight, packed.weight-most (b .acc) (omega (arith, b .number, c .before .before .before .before .loop-test .taken, c .before .before .before .before .before .before .before .pre .1 .1)))
+    b .room .four (omega (arith, b .number, c .before .before .before .before .before .before .before .pre .1 .1))
 
-mul-packed : tie.Need-mul-packed Inv-loop μ-loop
-mul-packed c = omega (arith, packed.weight-state (c .before .before .before .before .before .loop .weight) (c .before .got .given .0 .0) (state-small c), weight-small c)
+sub-first-after : tie.Need-sub-first-after Inv-loop μ-loop
+sub-first-after c = let b = c .before .before .before .before .before .loop .inv in omega (arith, b .number)
 
-add-packed : tie.Need-add-packed Inv-loop μ-loop
-add-packed c =
-    let l = c .before .before .before .before .before .loop in
-    omega (arith, packed.weight-state (l .weight) (c .before .got .given .0 .0) (state-small c), weight-small c, l .inv .small)
+first-after-requires : tie.Need-first-after-requires Inv-loop μ-loop
+first-after-requires c κs = (c .before .before .before .before .before .loop .inv .first-small, state-small c)
 
-weight-after-requires : tie.Need-weight-after-requires Inv-loop μ-loop
-weight-after-requires c κs = weight-small c
+sub-rest-after : tie.Need-sub-rest-after Inv-loop μ-loop
+sub-rest-after c = let b = c .before .before .before .before .before .before .loop .inv in omega (arith, b .number)
+
+rest-after-requires : tie.Need-rest-after-requires Inv-loop μ-loop
+rest-after-requires c κs = (rest-small (c .before), state-small (c .before))
 
 add-letters : tie.Need-add-letters Inv-loop μ-loop
 add-letters c =
-    let l = c .before .before .before .before .before .before .loop in
-    omega (arith, given (c .before) .short, l .inv .few, l .inv .number, c .before .before .before .before .before .before .before .before .pre .1 .1)
+    let l = c .before .before .before .before .before .before .before .loop in
+    omega (arith, given (c .before .before) .short, l .inv .few, l .inv .number, c .before .before .before .before .before .before .before .before .before .pre .1 .1)
 
 add-gaps : tie.Need-add-gaps Inv-loop μ-loop
 add-gaps c =
-    let l = c .before .before .before .before .before .before .loop in
-    omega (arith, gaps-small (c .before), l .inv .gaps-few, l .inv .few, l .inv .number, c .before .before .before .before .before .before .before .before .pre .1 .1)
+    let l = c .before .before .before .before .before .before .before .loop in
+    omega (arith, gaps-small (c .before .before), l .inv .gaps-few, l .inv .few, l .inv .number, c .before .before .before .before .before .before .before .before .before .pre .1 .1)
 
 sub-left : tie.Need-sub-left Inv-loop μ-loop
 sub-left c = search needs
@@ -102,21 +102,20 @@ loop-less c = search needs
 
 loop-again : tie.Need-loop-again Inv-loop μ-loop
 loop-again c =
-    let t = c .before .before .before .before .before in
+    let t = c .before .before .before .before .before .before in
     let p = t .before .before .before .pre in
-    law.begun-more (t .before .loop .inv) _ _ _ _ (c .weight-after .result) (t .loop-test .taken) (p .1 .0) (given (c .before)) (c .weight-after .ensures)
+    law.begun-more (t .before .loop .inv) _ _ _ _ (c .before .first-after .result) (c .rest-after .result) (t .loop-test .taken) (p .1 .0) (given (c .before .before)) (c .before .first-after .ensures) (c .rest-after .ensures)
 
-mul-t22 : tie.Need-mul-t22 Inv-loop μ-loop
-mul-t22 c = omega (arith, c .before .before .before .pre .1 .1)
-
-add-t23 : tie.Need-add-t23 Inv-loop μ-loop
-add-t23 c =
+packed-of-requires : tie.Need-packed-of-requires Inv-loop μ-loop
+packed-of-requires c κs =
     let l = c .before .loop in
     let p = c .before .before .before .pre in
-    omega (arith, p .1 .1, l .inv .small, l .inv .next-weight, packed.weight-last (l .inv .acc) (omega (arith, l .inv .number, p .1 .1)))
+    (l .inv .first-small, l .inv .room .four (omega (arith, l .inv .number, p .1 .1)), p .1 .1)
 
 returns-2 : tie.Need-returns-2 Inv-loop μ-loop
-returns-2 c = law.begun-all (c .before .loop .inv) (c .loop-test .left) (c .before .before .before .pre .1 .1)
+returns-2 c =
+    law.begun-all (c .before .before .loop .inv) (c .packed-of .result) (c .before .loop-test .left) (c .before .before .before .before .pre .1 .1)
+    (c .packed-of .ensures .0) (c .packed-of .ensures .1)
 
 pub children-spec : {M : Type 1} → statement M
 children-spec =
@@ -130,14 +129,14 @@ children-spec =
     enum-told
     fault-number-requires
     returns
-    mul-packed
-    add-packed
-    weight-after-requires
+    sub-first-after
+    first-after-requires
+    sub-rest-after
+    rest-after-requires
     add-letters
     add-gaps
     sub-left
     loop-less
     loop-again
-    mul-t22
-    add-t23
+    packed-of-requires
     returns-2)

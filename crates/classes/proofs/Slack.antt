@@ -1,0 +1,84 @@
+-- Stores that only raise numbers: how far the numbers are below 64, all told, only falls.
+use mathlib.Core.Path.{_≡_, refl, sym, subst, _∙_}
+use mathlib.Core.List.{List, [], _∷_}
+use Prim.Native.Nat.{ℕ, zero, suc, _+_, _*_, _<_, _≤_}
+use native.Mathlib.Nat.{not-suc-le-zero, le-of-suc-le-suc}
+use native.Mathlib.Decide.{ℕ-discrete, decLt}
+use native.Mathlib.Omega.{arith}
+use lib.ListN.{length, getD, set, length-set, List·getD-eq-default}
+use lib.Seq.{getD-set-same, getD-set-other}
+use Rattle.classes.specs.Classes.{Numbered}
+use Rattle.classes.specs.Rounds.{Low, Raised, slack, Put, Adopted}
+
+-- A number is another one or not.
+pub same-or : {P : Type 0} (p q : ℕ) → (p ≡ q → P) → ((p ≡ q → ⊥) → P) → P
+same-or p q a b = elim (ℕ-discrete p q) [ yes e ↦ a e | no n ↦ b n ]
+
+-- What holds of the entries below q holds below q + 1 after a store at q of what holds there.
+pub set-below : (P : ℕ → ℕ → Type 0) (m : List ℕ) (q v : ℕ) → q < length m → ((p : ℕ) → p < q → P p (getD m p 0)) → P q v
+    → (p : ℕ) → p < q + 1 → P p (getD (set m q v) p 0)
+set-below P m q v h old new p l =
+    same-or p q
+    (λ e. subst (λ (x : ℕ). P x (getD (set m q v) x 0)) (sym e) (subst (P q) (sym (getD-set-same m q v 0 h)) new))
+    (λ ne. subst (P p) (sym (getD-set-other m q p v 0 ne)) (old p (omega arith)))
+
+-- Entries that are 0 wherever there is one are 0 everywhere.
+pub zeros-all : (m : List ℕ) → ((q : ℕ) → q < length m → getD m q 0 ≡ 0) → (q : ℕ) → getD m q 0 ≡ 0
+zeros-all [] h q = refl
+zeros-all (x ∷ m) h zero = h zero (omega arith)
+zeros-all (x ∷ m) h (suc q) = zeros-all m (λ p l. h (suc p) (omega arith)) q
+
+-- At most 64 for each entry.
+pub slack-most : (m : List ℕ) → slack m ≤ 64 * length m
+unfolding slack
+slack-most [] = omega arith
+slack-most (x ∷ m) = omega (arith, slack-most m)
+
+-- A store that raises a number leaves less.
+slack-set : (m : List ℕ) (q v : ℕ) → q < length m → getD m q 0 < v → v ≤ 64 → slack (set m q v) + 1 ≤ slack m
+unfolding slack
+slack-set [] q v h l w = absurd (not-suc-le-zero h)
+slack-set (x ∷ m) zero v h l w = omega arith
+slack-set (x ∷ m) (suc q) v h l w = omega (arith, slack-set m q v (le-of-suc-le-suc h) l w)
+
+-- A number that was not there before is stored.
+pub put-one : (m : List ℕ) (q v : ℕ) → q < length m → getD m q 0 ≤ v → v ≤ 64 → (getD m q 0 ≡ v → ⊥) → Put m q v (set m q v) 1
+put-one m q v h l w ne =
+    record {
+      long = length-set m q v;
+      here = getD-set-same m q v 0 h;
+      elsewhere = λ p d. getD-set-other m q p v 0 d;
+      fewer = slack-set m q v h (omega arith) w;
+      still = λ e. absurd (omega arith);
+    }
+
+-- Nothing taken over yet.
+pub adopted-none : (next m : List ℕ) → Adopted 0 next m m 0
+adopted-none next m = record { long = refl; taken = λ q h. absurd (omega arith); rest = λ q h. refl; fewer = omega arith; still = λ e. refl }
+
+-- One entry more.
+pub adopted-more : {q k r : ℕ} {next m₀ m m′ : List ℕ} → Adopted q next m₀ m k → Put m q (getD next q 0) m′ r → Adopted (q + 1) next m₀ m′ (k + r)
+adopted-more {q} {k} {r} {next} {m₀} {m} {m′} a d =
+    record {
+      long = d .long ∙ a .long;
+      taken = λ p h. same-or p q (λ e. rw e (d .here)) (λ ne. d .elsewhere p ne ∙ a .taken p (omega arith));
+      rest = λ p h. d .elsewhere p (omega arith) ∙ a .rest p (omega arith);
+      fewer = omega (arith, a .fewer, d .fewer);
+      still = λ e. let er : r ≡ 0 = omega arith in let ek : k ≡ 0 = omega arith in d .still er ∙ a .still ek;
+    }
+
+-- Numbers that a round raised are still at most their states.
+pub adopted-low : {n k : ℕ} {next m m′ : List ℕ} → Adopted n next m m′ k → Low m → Raised n m next → Low m′
+adopted-low {n} {k} {next} {m} {m′} a l w q = go (decLt q n)
+  where
+    go : Dec (q < n) → getD m′ q 0 ≤ q
+    go (yes h) = omega (arith, a .taken q h, w q h .1)
+    go (no h) = omega (arith, a .rest q (omega arith), l q)
+
+-- A number for each of 64 states.
+pub numbered : (m : List ℕ) → length m ≡ 64 → Low m → Numbered m
+numbered m e l = record { long = e; low = l; below = λ q. go q (decLt q 64) }
+  where
+    go : (q : ℕ) → Dec (q < 64) → getD m q 0 < 64
+    go q (yes h) = omega (arith, l q)
+    go q (no h) = omega (arith, List·getD-eq-default m 0 {n = q} (omega arith))

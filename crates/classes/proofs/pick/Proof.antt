@@ -1,0 +1,61 @@
+-- `pick` meets its contract: no state passed leads q.
+use mathlib.Core.Path.{refl}
+use Prim.Native.Nat.{ℕ, _-_, _<_, _≤_}
+use native.Mathlib.Omega.{arith}
+use borrow.Author.Needs.{needs}
+use borrow.Author.Count.{below-more}
+use Rattle.machine.specs.Machine.{Table}
+use Rattle.classes.specs.Rounds.{Meant, Leads}
+use Rattle.classes.proofs.Pairs.{picked-self, picked-first}
+use Rattle.classes.proofs.pick.Statement.{statement}
+use Rattle.classes.proofs.pick.Tie as tie
+
+abbrev Inv-loop : tie.InvT-loop
+Inv-loop frames index symbols rep next q r₀ r = (r ≤ q) × ((M : Table) → Meant frames index symbols M → (p : ℕ) → p < r → Leads M rep next q p → ⊥)
+
+abbrev μ-loop : tie.MeasureT-loop
+μ-loop frames index symbols rep next q r₀ r = q - r
+
+loop-holds : tie.Need-loop-holds Inv-loop μ-loop
+loop-holds c = search needs
+
+leads-requires : tie.Need-leads-requires Inv-loop μ-loop
+leads-requires c κs = search needs
+
+returns : tie.Need-returns Inv-loop μ-loop
+returns c =
+    let a = c .before .before .before .before .before .before .before .before .args in
+    let l = c .before .before .before .loop in
+    let d = c .before .leads .ensures in
+    ((omega arith, d .0 (c .if1 .taken)), λ M m. picked-first M (a .rep .now) (a .next .now) (a .q) (l .r) (d .1 M m .if-true (c .if1 .taken)) (l .inv .1 M m))
+
+add-r : tie.Need-add-r Inv-loop μ-loop
+add-r c = search needs
+
+loop-less : tie.Need-loop-less Inv-loop μ-loop
+loop-less c = search needs
+
+loop-again : tie.Need-loop-again Inv-loop μ-loop
+loop-again c =
+    let a = c .before .before .before .before .before .before .before .before .args in
+    let l = c .before .before .before .loop in
+    (omega arith, λ M m. below-more (λ (p : ℕ). Leads M (a .rep .now) (a .next .now) (a .q) p → ⊥) (l .r) (l .inv .1 M m) (c .before .leads .ensures .1 M m .if-false (c .if1 .left)))
+
+returns-2 : tie.Need-returns-2 Inv-loop μ-loop
+returns-2 c =
+    let a = c .before .before .before .before .before .before .args in
+    ((omega arith, refl), λ M m. picked-self M (a .rep .now) (a .next .now) (a .q) (λ p h. c .before .loop .inv .1 M m p (omega arith)))
+
+pub pick-spec : {M : Type 1} → statement M
+pick-spec =
+    tie.close
+    (tie.spec
+    Inv-loop
+    μ-loop
+    loop-holds
+    leads-requires
+    returns
+    add-r
+    loop-less
+    loop-again
+    returns-2)

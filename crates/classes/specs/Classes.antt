@@ -1,0 +1,19 @@
+-- Classes of a table's states: rep gives each state the number of its class. Definitions only.
+use mathlib.Core.Path.{_≡_}
+use mathlib.Core.Logic.{_↔_}
+use mathlib.Core.List.{List}
+use Prim.Native.Nat.{ℕ, _<_, _≤_}
+use lib.ListN.{length, getD}
+use Rattle.machine.specs.Machine.{Table}
+use Rattle.machine.specs.Same.{Same}
+
+-- States have one number exactly when they have the same words on all finite trees; and a class's number is a state of the class.
+pub record Classes (M : Table) (rep : List ℕ) : Type 0 where
+  pub same : (q r : ℕ) → q < M .states → r < M .states → (getD rep q 0 ≡ getD rep r 0) ↔ Same M M q r
+  pub member : (q : ℕ) → q < M .states → Same M M q (getD rep q 0)
+
+-- Whatever the bytes are: a number for each of 64 states, each at most the state, so below 64.
+pub record Numbered (rep : List ℕ) : Type 0 where
+  pub long : length rep ≡ 64
+  pub low : (q : ℕ) → getD rep q 0 ≤ q
+  pub below : (q : ℕ) → getD rep q 0 < 64

@@ -1,0 +1,47 @@
+-- Frame 04 at the stage of rules.
+use mathlib.Core.Path.{_≡_, refl, sym, ap, _∙_}
+use mathlib.Core.List.{List, [], _∷_, _++_}
+use Prim.Native.Nat.{ℕ, _+_, _<_, _≤_}
+use native.Mathlib.Omega.{arith}
+use lib.ListN.{length, getD, take}
+use lib.Seq.{slice, length-take-le}
+use Rattle.machine.specs.Machine.{Table}
+use Rattle.text.specs.Frames as text
+use Rattle.layout.specs.Layout.{rowFrames, headFrames, framesOf}
+use Rattle.fields.proofs.Slices.{slice-none, slice-byte}
+use Rattle.frames.specs.Staged.{AtRules, Stepped}
+use Rattle.frames.specs.declared.Stage.{Stage}
+use Rattle.frames.specs.declared.Next.the-variants as next
+use Rattle.frames.proofs.RuleBytes.{frames-more}
+use Rattle.frames.proofs.RuleStage.{stepped-over, stepped-next}
+
+-- The stage behind the end.
+abbrev pub behindEnd : Stage → ℕ → Stage
+behindEnd st end = record { phase = 2; head = st .head; last = st .last; used = end }
+
+module _ {F I : List ℕ} {st : Stage} {M : Table} (a : AtRules F I st M) (at end : ℕ) where
+  -- Bytes are left over.
+  pub end-over : at < end → end ≤ length F → Stepped F I (text.whole (text.endFrame M (slice at end F))) (next.Wrong 5)
+  end-over h l = stepped-over F I _ _ (getD F at 0) (slice (at + 1) end F) (slice at end F) refl (slice-byte F at end _ h l refl)
+
+  module _ (whole : end ≤ at) (next-to : at ≡ st .used + 1) (start : at ≤ end) (inside : end ≤ length F) (kind : getD F (st .used) 0 ≡ 4) where
+    -- No byte is left over.
+    nothing-left : slice at end F ≡ []
+    nothing-left = slice-none F at end (omega arith)
+
+    -- The end frame stands behind the frames so far.
+    frames-all : take end F ≡ framesOf M
+    unfolding framesOf
+    frames-all =
+        frames-more F (st .used) at end 4 (headFrames M ++ rowFrames (M .rows)) (a .frames) kind next-to start inside
+        ∙ ap (λ l. headFrames M ++ rowFrames (M .rows) ++ 4 ∷ l) nothing-left
+
+    -- The stage behind the end.
+    pub end-next : Stepped F I (text.whole (text.endFrame M (slice at end F))) (next.Ready (behindEnd st end))
+    end-next = stepped-next F I _ _ _ (slice at end F) refl nothing-left (record {
+      phase = refl;
+      head = a .numbers .head;
+      used = sym (length-take-le end F inside) ∙ ap length frames-all;
+      frames = frames-all;
+      index = a .index;
+    })

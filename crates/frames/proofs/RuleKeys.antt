@@ -1,0 +1,77 @@
+-- Places in the order of rows: which row rises over the rows so far, and that these have no rule for it.
+use mathlib.Core.Path.{_≡_, refl}
+use mathlib.Core.Bool.{Bool, true, false, _&&_}
+use mathlib.Core.List.{List, [], _∷_, _++_}
+use mathlib.Core.Option.{Option, none, some}
+use Prim.Native.Nat.{ℕ, _+_, _*_, _<_, _≤_}
+use native.Mathlib.Omega.{arith}
+use native.Mathlib.Decide.{decLt}
+use borrow.Author.Tests.{lt-ltb, le-ltb, eq-eqb, ne-eqb, eqb-true}
+use lib.Dec.{eqb, ltb}
+use Rattle.machine.specs.Machine.{Rule, Row, Every, find}
+use Rattle.text.specs.Frames.{behindRow, rises}
+use Rattle.text.proofs.Digits.{and-true}
+use Rattle.frames.specs.Staged.{key, lastKey}
+
+-- The rows stand before place n, and their symbols are below 64.
+abbrev pub AllBefore : ℕ → List Row → Type 0
+AllBefore n rows = Every (λ r. (r .symbol < 64) × (key r < n)) rows
+
+-- The second of two tests fails.
+and-second : (a b : Bool) → b ≡ false → (a && b) ≡ false
+and-second true b e = e
+and-second false b e = refl
+
+module _ (r : Row) (q f : ℕ) (hr : r .symbol < 64) (hf : f < 64) where
+  -- A place behind a row's place rises over the row.
+  behind-true : key r < q * 64 + f → behindRow r q f ≡ true
+  behind-true h = go (decLt (r .state) q)
+    where
+      go : Dec (r .state < q) → behindRow r q f ≡ true
+      go (yes k) = rw (lt-ltb (r .state) q k)
+      go (no k) =
+          let s : r .state ≡ q = omega arith in
+          rw (le-ltb (r .state) q (omega arith), eq-eqb (r .state) q s, lt-ltb (r .symbol) f (omega arith))
+
+  -- A row's own place and those before it do not.
+  behind-false : q * 64 + f ≤ key r → behindRow r q f ≡ false
+  behind-false h = go (decLt (r .symbol) f)
+    where
+      go : Dec (r .symbol < f) → behindRow r q f ≡ false
+      go (yes k) = rw (le-ltb (r .state) q (omega arith), ne-eqb (r .state) q (λ e. omega arith))
+      go (no k) = rw (le-ltb (r .state) q (omega arith)) (and-second (eqb (r .state) q) (ltb (r .symbol) f) (le-ltb (r .symbol) f (omega arith)))
+
+-- A place that is not before n rises over rows that are.
+pub rises-true : (rows : List Row) (q f n : ℕ) → AllBefore n rows → f < 64 → n ≤ q * 64 + f → rises rows q f ≡ true
+rises-true [] q f n h hf k = refl
+rises-true (r ∷ []) q f n h hf k = behind-true r q f (h .0 .0) hf (omega (arith, h .0 .1))
+rises-true (r ∷ s ∷ rows) q f n h hf k = rises-true (s ∷ rows) q f n (h .1) hf k
+
+-- A place before the least behind the rows does not rise.
+pub rises-false : (rows : List Row) (q f n : ℕ) → AllBefore n rows → n ≡ lastKey rows → f < 64 → q * 64 + f < n → rises rows q f ≡ false
+rises-false [] q f n h e hf k = absurd (omega arith)
+rises-false (r ∷ []) q f n h e hf k = behind-false r q f (h .0 .0) hf (omega arith)
+rises-false (r ∷ s ∷ rows) q f n h e hf k = rises-false (s ∷ rows) q f n (h .1) e hf k
+
+-- Rows before n have no rule for a place that is not.
+pub before-none : (rows : List Row) (q f n : ℕ) → AllBefore n rows → n ≤ q * 64 + f → find rows q f ≡ none
+unfolding find
+before-none [] q f n h k = refl
+before-none (r ∷ rows) q f n h k = go (eqb (r .state) q && eqb (r .symbol) f) refl (before-none rows q f n (h .1) k)
+  where
+    go : (b : Bool) → (eqb (r .state) q && eqb (r .symbol) f) ≡ b → find rows q f ≡ none → _≡_ {A = Option Rule} (elim b [ true ↦ some (r .rule) | false ↦ find rows q f ]) none
+    go true t more =
+        let d = and-true (eqb (r .state) q) (eqb (r .symbol) f) t in
+        absurd (omega (arith, eqb-true (r .state) q (d .0), eqb-true (r .symbol) f (d .1), h .0 .1))
+    go false t more = more
+
+-- The least place behind a last row is the one behind its own.
+pub last-snoc : (rows : List Row) (r : Row) → lastKey (rows ++ r ∷ []) ≡ key r + 1
+last-snoc [] r = refl
+last-snoc (s ∷ []) r = refl
+last-snoc (s ∷ t ∷ rows) r = last-snoc (t ∷ rows) r
+
+-- One row more, behind the others.
+pub before-snoc : (rows : List Row) (r : Row) (n : ℕ) → AllBefore n rows → n ≤ key r → r .symbol < 64 → AllBefore (key r + 1) (rows ++ r ∷ [])
+before-snoc [] r n h k l = ((l, omega arith), tt)
+before-snoc (s ∷ rows) r n h k l = ((h .0 .0, omega (arith, h .0 .1)), before-snoc rows r n (h .1) k l)

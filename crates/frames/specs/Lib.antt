@@ -1,0 +1,2 @@
+-- Frames: what each makes of the table read so far.
+pub mod Staged

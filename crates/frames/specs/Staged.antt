@@ -1,0 +1,107 @@
+-- How far the reader is, in numbers, and the stage of the definition that it stands for. Definitions only.
+use mathlib.Core.Path.{_≡_}
+use mathlib.Core.List.{List, [], _∷_, _++_}
+use Prim.Native.Nat.{ℕ, suc, _+_, _*_, _<_, _≤_}
+use lib.ListN.{length, take}
+use lib.Seq.{slice}
+use Rattle.machine.specs.Machine.{Rule, Row, Table, Every}
+use Rattle.text.specs.Frames as frames
+use Rattle.text.specs.Fields as fields
+use Rattle.text.specs.Fields.{Parsed, got, fault, _>>=_, pure}
+use Rattle.text.specs.Writing.{AtMost}
+use Rattle.layout.specs.Layout.{symbolFrames, rowFrames, headFrames, framesOf, entryOf, Indexed}
+use Rattle.layout.specs.Leaves.{headOf}
+use Rattle.frames.specs.declared.Stage.{Stage}
+use Rattle.frames.specs.declared.Entry.{Entry}
+use Rattle.frames.specs.declared.Entry.the-variants as entry
+use Rattle.frames.specs.declared.Next.{Next}
+use Rattle.frames.specs.declared.Next.the-variants as next
+
+-- A row's place in the order of rows: by state and then symbol.
+abbrev pub key : Row → ℕ
+key r = r .state * 64 + r .symbol
+
+-- The least place in that order behind the rows so far.
+abbrev pub lastKey : List Row → ℕ
+lastKey [] = 0
+lastKey (r ∷ []) = key r + 1
+lastKey (r ∷ s ∷ rs) = lastKey (s ∷ rs)
+
+-- The symbols so far have been read.
+pub record AtSymbols (F I : List ℕ) (st : Stage) (arities : List ℕ) : Type 0 where
+  pub phase : st .phase ≡ 0
+  pub symbols : st .head .symbols ≡ length arities
+  pub few : length arities ≤ 64
+  pub small : AtMost 4 arities
+  pub used : st .used ≡ length (symbolFrames arities)
+  pub frames : take (st .used) F ≡ symbolFrames arities
+  pub index : Indexed I 0 []
+
+-- What is known of the numbers of a table whose rules are being read.
+pub record Numbers (st : Stage) (M : Table) : Type 0 where
+  pub head : st .head ≡ headOf M
+  pub symbols : length (M .arities) ≤ 64
+  pub small : AtMost 4 (M .arities)
+  pub states : M .states ≤ 64
+  pub rules : length (M .rows) ≤ 512
+  pub behind : Every (λ r. (r .symbol < 64) × (key r < st .last)) (M .rows)
+  pub last : st .last ≡ lastKey (M .rows)
+
+-- The initial rule and the rules so far have been read.
+pub record AtRules (F I : List ℕ) (st : Stage) (M : Table) : Type 0 where
+  pub phase : st .phase ≡ 1
+  pub numbers : Numbers st M
+  pub used : st .used ≡ length (headFrames M ++ rowFrames (M .rows))
+  pub frames : take (st .used) F ≡ headFrames M ++ rowFrames (M .rows)
+  pub index : Indexed I (length (headFrames M)) (M .rows)
+
+-- The end frame has been read.
+pub record AtEnd (F I : List ℕ) (st : Stage) (M : Table) : Type 0 where
+  pub phase : st .phase ≡ 2
+  pub head : st .head ≡ headOf M
+  pub used : st .used ≡ length (framesOf M)
+  pub frames : take (st .used) F ≡ framesOf M
+  pub index : Indexed I (length (headFrames M)) (M .rows)
+
+-- The reader's numbers st, with the bytes F and the entries I, stand for a stage of the definition.
+abbrev pub Staged : List ℕ → List ℕ → Stage → frames.Stage → Type 0
+Staged F I st (frames.symbols arities) = AtSymbols F I st arities
+Staged F I st (frames.rules M) = AtRules F I st M
+Staged F I st (frames.ended M) = AtEnd F I st M
+
+-- What a frame's reading answers: the next stage, or the number of no.
+abbrev pub Stepped : List ℕ → List ℕ → frames.Step → Next → Type 0
+Stepped F I (frames.next s) (next.Ready st) = Staged F I st s
+Stepped F I (frames.next s) (next.Wrong n) = ⊥
+Stepped F I (frames.wrong k) (next.Ready st) = ⊥
+Stepped F I (frames.wrong k) (next.Wrong n) = n ≡ k
+
+-- A rule's fields behind its symbol: the word u0, then for each child its state and a word.
+unfoldable pub ruleField : ℕ → ℕ → fields.Field Rule
+ruleField states k = do
+  u ← fields.text
+  cs ← fields.children states k
+  pure (record { first = u; rest = cs })
+
+-- A rule's number for the index, and where the next field stands.
+pub record Entered (F bs : List ℕ) (r : Rule) (at end then x : ℕ) : Type 0 where
+  pub left : bs ≡ slice then end F
+  pub from : at ≤ then
+  pub inside : then ≤ end
+  pub entry : x ≡ entryOf at r
+
+abbrev pub RuleRead : List ℕ → ℕ → ℕ → Parsed Rule → Entry → Type 0
+RuleRead F at end (got r bs) (entry.Rule then x) = Entered F bs r at end then x
+RuleRead F at end (got r bs) (entry.Fault n) = ⊥
+RuleRead F at end (fault k) (entry.Rule then x) = ⊥
+RuleRead F at end (fault k) (entry.Fault n) = n ≡ k
+
+-- The refusal that a rule's fields give.
+abbrev pub refusedBy : Entry → Next
+refusedBy (entry.Rule then x) = next.Wrong 0
+refusedBy (entry.Fault n) = next.Wrong n
+
+-- The number of a frame that is refused, 0 for one that is not.
+abbrev pub numberOf : Next → ℕ
+numberOf (next.Ready st) = 0
+numberOf (next.Wrong n) = n
