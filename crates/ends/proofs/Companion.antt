@@ -44,11 +44,11 @@ least-least test (suc n) i = go (test i) refl (least test n (suc i)) (least-leas
 
 -- ---- conditions by checks
 -- A test tells whether a condition holds, at each of its places.
-record Tells (k : Check) (c : Condition) : Type 0 where
-  number : k .number ≡ c .number
-  places : k .places ≡ c .places
-  passed : (p : ℕ) → p < c .places → k .passes p ≡ true → c .holds p
-  failed : (p : ℕ) → p < c .places → k .passes p ≡ false → c .holds p → ⊥
+pub record Tells (k : Check) (c : Condition) : Type 0 where
+  pub number : k .number ≡ c .number
+  pub places : k .places ≡ c .places
+  pub passed : (p : ℕ) → p < c .places → k .passes p ≡ true → c .holds p
+  pub failed : (p : ℕ) → p < c .places → k .passes p ≡ false → c .holds p → ⊥
 
 -- The verdict by conditions, if the first check tells of the first condition and the others of the others where the first is met.
 judged-step : (k : Check) (ks : List Check) (c : Condition) (cs : List Condition) → Tells k c → (Met c → JudgedBy cs (judgeBy ks)) → JudgedBy (c ∷ cs) (judgeBy (k ∷ ks))
@@ -62,14 +62,14 @@ judged-step k ks c cs t f = go (least (k .passes) (k .places) 0) (least-least (k
         inl (p, record { place = l; fails = t .failed p l (h .1); least = λ r m. t .passed r (omega arith) (h .2 r (omega arith) m) }, ap (λ n. late n p) (t .number))
 
 -- Each check tells of its condition, where those before it are met.
-abbrev TellAll : List Check → List Condition → Type 0
+abbrev pub TellAll : List Check → List Condition → Type 0
 TellAll [] [] = Unit {0}
 TellAll [] (c ∷ cs) = ⊥
 TellAll (k ∷ ks) [] = ⊥
 TellAll (k ∷ ks) (c ∷ cs) = Tells k c × (Met c → TellAll ks cs)
 
 -- The verdict by conditions of which checks tell.
-judged-by : (ks : List Check) (cs : List Condition) → TellAll ks cs → JudgedBy cs (judgeBy ks)
+pub judged-by : (ks : List Check) (cs : List Condition) → TellAll ks cs → JudgedBy cs (judgeBy ks)
 unfolding judgeBy
 judged-by [] [] t = refl
 judged-by [] (c ∷ cs) t = absurd t

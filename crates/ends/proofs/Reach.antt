@@ -32,11 +32,11 @@ reached-within M P s k q (below {q = p} {r = r} {c = c} f h e m i) =
 -- ---- marks that are sound
 module _ (M : Table) where
   -- Only states that are reached are marked.
-  abbrev Sound : List Bool → Type 0
+  abbrev pub Sound : List Bool → Type 0
   Sound ms = (q : ℕ) → on ms q ≡ true → Reached M q
 
   -- One mark more, at a state that is reached.
-  mark-sound : (ms : List Bool) (q : ℕ) → Sound ms → Reached M q → Sound (set ms q true)
+  pub mark-sound : (ms : List Bool) (q : ℕ) → Sound ms → Reached M q → Sound (set ms q true)
   mark-sound ms q s r p e = go (ℕ-discrete p q)
     where
       go : Dec (p ≡ q) → Reached M p
@@ -59,7 +59,7 @@ module _ (M : Table) where
       go false e = s
 
   -- All rows.
-  spread-sound : (rows : List Row) → ((i : ℕ) (row : Row) → getElem? rows i ≡ some row → find (M .rows) (row .state) (row .symbol) ≡ some (row .rule)) → (ms : List Bool) → Sound ms → Sound (spread rows ms)
+  pub spread-sound : (rows : List Row) → ((i : ℕ) (row : Row) → getElem? rows i ≡ some row → find (M .rows) (row .state) (row .symbol) ≡ some (row .rule)) → (ms : List Bool) → Sound ms → Sound (spread rows ms)
   unfolding spread
   spread-sound [] f ms s = s
   spread-sound (row ∷ rows) f ms s = spread-sound rows (λ i. f (suc i)) (follow row ms) (follow-sound row (f zero row refl) ms s)

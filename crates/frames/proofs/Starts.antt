@@ -1,14 +1,14 @@
 -- Frame 02: what its fields give, and a table with no rule yet; the stage at the beginning.
 use mathlib.Core.Path.{_≡_, refl, sym, ap, _∙_}
 use mathlib.Core.List.{List, [], _∷_, _++_, append-nil}
-use Prim.Native.Nat.{ℕ, _+_, _*_, _<_, _≤_}
+use Prim.Native.Nat.{ℕ, _+_, _<_, _≤_}
 use native.Mathlib.Omega.{arith}
 use lib.ListN.{length, getD, take}
 use lib.Seq.{slice}
 use Rattle.words.specs.Word.{Word}
 use Rattle.machine.specs.Machine.{Table}
 use Rattle.text.specs.Limits.{statesMost}
-use Rattle.text.specs.Fields.{Parsed, got, fault, within, below, text}
+use Rattle.text.specs.Fields.{got, fault, within, below, text}
 use Rattle.text.specs.Frames.{rules, startFrame}
 use Rattle.text.specs.Writing.{textOf, initialFrame}
 use Rattle.text.proofs.Fields.{then-got, within-inv, below-inv, text-inv}
@@ -20,7 +20,7 @@ use Rattle.layout.proofs.Fit.{length-symbols}
 use Rattle.fields.proofs.Slices.{slice-none}
 use Rattle.fields.proofs.Numbers.{IsNumber}
 use Rattle.fields.proofs.Words.{IsWord}
-use Rattle.frames.specs.Staged.{AtSymbols, Numbers, AtRules}
+use Rattle.frames.specs.Staged.{AtSymbols, AtRules}
 use Rattle.frames.specs.declared.Stage.{Stage}
 use Rattle.frames.proofs.StepFrames.{frame-more, frame-long}
 

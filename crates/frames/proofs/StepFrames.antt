@@ -1,9 +1,9 @@
 -- What a frame's reading answers, from what its fields give; and the bytes with one frame more.
 use mathlib.Core.Path.{_≡_, refl, sym, ap, ap₂, _∙_}
-use mathlib.Core.List.{List, [], _∷_, _++_}
-use Prim.Native.Nat.{ℕ, suc, _+_, _<_, _≤_}
+use mathlib.Core.List.{List, _∷_, _++_}
+use Prim.Native.Nat.{ℕ, _+_, _<_, _≤_}
 use native.Mathlib.Omega.{arith}
-use lib.ListN.{length, getD, take, drop, take-append-drop}
+use lib.ListN.{length, getD, take, take-append-drop}
 use lib.Seq.{slice, take-take, slice-cons, length-take-le}
 use Rattle.text.specs.Fields.{Parsed, got, fault}
 use Rattle.text.specs.Frames as text

@@ -1,16 +1,16 @@
 -- A frame by its kind: what it makes of the stage, and 3 for a kind that is unknown or not due here.
-use mathlib.Core.Path.{_≡_, refl, sym, ap, _∙_}
-use mathlib.Core.List.{List, [], _∷_, _++_}
+use mathlib.Core.Path.{_≡_, refl, _∙_}
+use mathlib.Core.List.{List, [], _∷_}
 use Prim.Native.Nat.{ℕ, _+_, _<_, _≤_}
 use native.Mathlib.Omega.{arith}
-use lib.ListN.{length, getD, take}
+use lib.ListN.{length, getD}
 use lib.Seq.{slice}
 use Rattle.machine.specs.Machine.{Table}
 use Rattle.text.specs.Frames as text
 use Rattle.text.specs.Frames.{symbols, rules, ended, whole, symbolFrame, startFrame, ruleFrame, endFrame}
 use Rattle.text.proofs.ByKind.{step-empty, step-01, step-02, step-03, step-04, step-first-other, step-symbols-other, step-rules-other, step-ended}
 use Rattle.fields.proofs.Slices.{slice-none, slice-byte}
-use Rattle.frames.specs.Staged.{AtSymbols, AtRules, AtEnd, Staged, Stepped}
+use Rattle.frames.specs.Staged.{AtSymbols, AtRules, Staged, Stepped}
 use Rattle.frames.specs.declared.Stage.{Stage}
 use Rattle.frames.specs.declared.Next.{Next}
 use Rattle.frames.specs.declared.Next.the-variants as next

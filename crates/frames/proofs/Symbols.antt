@@ -1,5 +1,5 @@
 -- Frame 01: what its field gives, and one symbol more.
-use mathlib.Core.Path.{_≡_, refl, sym, ap, _∙_}
+use mathlib.Core.Path.{_≡_, sym, ap, _∙_}
 use mathlib.Core.List.{List, [], _∷_, _++_}
 use Prim.Native.Nat.{ℕ, _+_, _<_, _≤_}
 use native.Mathlib.Omega.{arith}
@@ -8,7 +8,7 @@ use lib.Dec.{ltb}
 use lib.ListN.{length, getD, take, length-append}
 use lib.Seq.{slice}
 use Rattle.text.specs.Limits.{symbolsMost, arityMost}
-use Rattle.text.specs.Fields.{Parsed, got, fault, within}
+use Rattle.text.specs.Fields.{got, fault, within}
 use Rattle.text.specs.Frames.{symbols, symbolFrame}
 use Rattle.text.proofs.Fields.{then-got, check-got, within-inv, most-append}
 use Rattle.text.proofs.Faults.{then-fault, check-fault}

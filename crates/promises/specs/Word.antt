@@ -36,6 +36,10 @@ pub record Letters : Type 0 where
 abbrev pub lettersOf : Word → Letters
 lettersOf w = record { length = length w; terms = terms w }
 
+-- The answer of the word call for an opened table, tree bytes and so many bytes of room.
+unfoldable pub wordInto : Table → List ℕ → ℕ → Reply Word
+wordInto M tree room = into room (wordOn M tree)
+
 -- The room after the word call.
 unfoldable pub wordRoom : List ℕ → List ℕ → List ℕ → List ℕ
 wordRoom text tree room = filled room (wordAnswer text tree (length room))

@@ -81,7 +81,7 @@ pub fn measure(
 }
 
 // Copies a word into the room from `at` on, and answers the place behind it.
-fn put(word: &[u8], room: &mut [u8], at: usize) -> usize
+pub fn put(word: &[u8], room: &mut [u8], at: usize) -> usize
     requires { ⌜ at + length (now word) ≤ length (now room) ⌝ }
     ensures { λ r. ⌜ (r ≡ at + length (now (word .entry)))
         × (now (room .exit) ≡ take at (now (room .entry)) ++ now (word .entry) ++ drop (at + length (now (word .entry))) (now (room .entry))) ⌝ }

@@ -16,3 +16,8 @@ abbrev pub _then_ : {A B : Type 0} → Reply A → (A → Reply B) → Reply B
 abbrev pub refuse-if : {A : Type 0} → Bool → ℕ → ℕ → Reply A → Reply A
 refuse-if true n p r = refused n p
 refuse-if false n p r = r
+
+-- A yes with another value, made of its own; a no stays.
+abbrev pub mapped : {A B : Type 0} → (A → B) → Reply A → Reply B
+mapped f (given a) = given (f a)
+mapped f (refused n p) = refused n p

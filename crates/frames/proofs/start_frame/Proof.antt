@@ -1,6 +1,4 @@
 -- `start_frame` meets its contract. Assumes nothing.
-use mathlib.Core.Path.{refl}
-use native.Mathlib.Omega.{arith}
 use borrow.Author.Needs.{needs}
 use lib.Seq.{slice}
 use Rattle.text.specs.Fields as text

@@ -1,0 +1,85 @@
+-- Writing into a room in pieces, and hexadecimal digits in pieces.
+use mathlib.Core.Path.{_≡_, refl, sym, ap, subst, _∙_}
+use mathlib.Core.List.{List, [], _∷_, _++_, append-assoc}
+use Prim.Native.Nat.{ℕ, zero, suc, _+_, _-_, _*_, _<_, _≤_}
+use native.Mathlib.Nat.{add-zero}
+use native.Mathlib.Numerals.{add-one}
+use native.Mathlib.Omega.{arith}
+use lib.ListN.{length, getD, set, take, drop, length-append}
+use lib.Seq.{sets, sets-eq, set-out, take-suc, take-all}
+use borrow.Author.Tests.{lt-ltb, le-ltb}
+use Rattle.text.specs.Lines.{digitOf, hexOf, lineOf}
+use Rattle.canon.specs.Room.{Wrote}
+
+-- Stores of two lists, one behind the other.
+sets-append : (us vs l : List ℕ) (i : ℕ) → sets l i (us ++ vs) ≡ sets (sets l i us) (i + length us) vs
+sets-append [] vs l i = ap (λ (k : ℕ). sets l k vs) (sym (add-zero i))
+sets-append (u ∷ us) vs l i = sets-append us vs (set l i u) (suc i) ∙ ap (λ (k : ℕ). sets (sets (set l i u) (suc i) us) k vs) place
+  where
+    place : suc i + length us ≡ i + suc (length us)
+    place = omega arith
+
+-- Nothing is written.
+pub wrote-none : (R : List ℕ) (at : ℕ) → Wrote R at [] R at
+wrote-none R at = record { bytes = refl; end = omega arith }
+
+-- A byte that has a place is written there.
+pub wrote-inside : (R : List ℕ) (at b : ℕ) → Wrote R at (b ∷ []) (set R at b) (at + 1)
+wrote-inside R at b = record { bytes = refl; end = omega arith }
+
+-- A byte that has none is left out.
+pub wrote-outside : (R : List ℕ) (at b : ℕ) → length R ≤ at → Wrote R at (b ∷ []) R (at + 1)
+wrote-outside R at b h = record { bytes = sym (set-out R at b h); end = omega arith }
+
+-- Bytes are written behind bytes.
+pub wrote-then : {R us S vs T : List ℕ} {a b c : ℕ} → Wrote R a us S b → Wrote S b vs T c → Wrote R a (us ++ vs) T c
+wrote-then {R} {us} {S} {vs} {T} {a} {b} {c} w v =
+    record {
+      bytes = v .bytes ∙ ap (λ (l : List ℕ). sets l b vs) (w .bytes) ∙ ap (λ (k : ℕ). sets (sets R a us) k vs) (w .end) ∙ sym (sets-append us vs R a);
+      end = omega (arith, w .end, v .end, length-append us vs);
+    }
+
+-- The same bytes are written.
+pub wrote-as : {R us vs S : List ℕ} {a b : ℕ} → us ≡ vs → Wrote R a us S b → Wrote R a vs S b
+wrote-as {R} {us} {vs} {S} {a} {b} e w = subst (λ (l : List ℕ). Wrote R a l S b) e w
+
+-- Bytes that fit are the first of the room, and the rest is unchanged.
+pub wrote-filled : {R ws S : List ℕ} {n : ℕ} → Wrote R 0 ws S n → length ws ≤ length R → S ≡ ws ++ drop (length ws) R
+wrote-filled {R} {ws} {S} {n} w h = w .bytes ∙ sets-eq ws R 0 (omega arith) ∙ ap (λ (k : ℕ). ws ++ drop k R) place
+  where
+    place : 0 + length ws ≡ length ws
+    place = omega arith
+
+-- Two digits a byte.
+pub length-hex : (bs : List ℕ) → length (hexOf bs) ≡ 2 * length bs
+unfolding hexOf
+length-hex [] = omega arith
+length-hex (b ∷ bs) = omega (arith, length-hex bs)
+
+-- The digits of two lists, one behind the other.
+pub hex-append : (us vs : List ℕ) → hexOf (us ++ vs) ≡ hexOf us ++ hexOf vs
+unfolding hexOf
+hex-append [] vs = refl
+hex-append (u ∷ us) vs = rw (hex-append us vs)
+
+-- The digits of a frame, and then a line feed, are its line.
+pub line-ends : (frame : List ℕ) → hexOf frame ++ 10 ∷ [] ≡ lineOf frame
+unfolding lineOf
+line-ends frame = refl
+
+-- One byte more, two digits more.
+pub hex-more : (bs : List ℕ) (i : ℕ) → i < length bs → hexOf (take i bs) ++ hexOf (getD bs i 0 ∷ []) ≡ hexOf (take (i + 1) bs)
+hex-more bs i h = sym (hex-append (take i bs) (getD bs i 0 ∷ [])) ∙ ap hexOf (sym (take-suc bs i 0 h)) ∙ ap (λ (k : ℕ). hexOf (take k bs)) (sym (add-one i))
+
+-- The digit of a value below 10, and of one from 10 on.
+pub digit-low : (v : ℕ) → v < 10 → 48 + v ≡ digitOf v
+unfolding digitOf
+digit-low v h = rw (lt-ltb v 10 h, digitOf)
+
+pub digit-high : (v : ℕ) → 10 ≤ v → 97 + (v - 10) ≡ digitOf v
+unfolding digitOf
+digit-high v h = rw (le-ltb v 10 h, digitOf)
+
+-- The digits of all bytes.
+pub hex-all : (bs : List ℕ) (i : ℕ) → length bs ≤ i → hexOf (take i bs) ≡ hexOf bs
+hex-all bs i h = ap hexOf (take-all i bs h)

@@ -1,0 +1,92 @@
+-- The form's text is never longer than the table's, and the form is within the limits of a table.
+use mathlib.Core.Path.{_≡_, refl, sym, ap, _∙_}
+use mathlib.Core.List.{List, [], _∷_, _++_, map}
+use Prim.Native.Nat.{ℕ, zero, _+_, _*_, _<_, _≤_}
+use native.Mathlib.Omega.{arith}
+use lib.ListN.{length, getD, length-append}
+use Rattle.machine.specs.Machine.{Child, Row, Table, Each, Every, WellMade}
+use Rattle.machine.specs.Form.{Test, Decides, order, rowsOf, renumber, formOf, IsForm}
+use Rattle.normal.specs.Listed.{numberOf, numberedRest}
+use Rattle.normal.specs.Shrunk.{total, ByNumber}
+use Rattle.normal.proofs.Lists.{All, all-map}
+use Rattle.normal.proofs.Rows.{rowsOf-all}
+use Rattle.normal.proofs.Order.{order-length}
+use Rattle.normal.proofs.Made.{renumbered-all, form-made}
+use Rattle.normal.proofs.Size.{isForm-rows, isForm-total}
+use Rattle.text.specs.Writing.{textOf, childrenText, rowFrame, writeTable, Short, ShortRow, Limited}
+use Rattle.layout.specs.Layout.{rowFrames, headFrames, framesOf, ruleLetters}
+use Rattle.layout.proofs.Fit.{length-text}
+use Rattle.layout.proofs.Heads.{length-head}
+use Rattle.canon.proofs.Lengths.{length-row}
+
+-- The frames of rows are as long as all of them together.
+rows-total : (rows : List Row) → length (rowFrames rows) ≡ total (λ r. length (rowFrame r)) rows
+unfolding rowFrames
+rows-total [] = refl
+rows-total (r ∷ rs) = length-append (rowFrame r) (rowFrames rs) ∙ ap (λ (n : ℕ). length (rowFrame r) + n) (rows-total rs)
+
+-- Children by their own numbers.
+numbered-self : (cs : List Child) → cs ≡ numberedRest (λ q. q) cs
+numbered-self [] = refl
+numbered-self (c ∷ cs) = ap (λ (ds : List Child). c ∷ ds) (numbered-self cs)
+
+-- A row's frame is as long by any number.
+row-any : (r s : Row) → ByNumber r s → length (rowFrame r) ≡ length (rowFrame s)
+unfolding rowFrame
+row-any r s b = sym (ap (λ (x : Row). length (rowFrame x)) (b .2) ∙ length-row (b .0) (b .1) r ∙ sym self)
+  where
+    self : length (rowFrame r) ≡ 4 + 2 * length (r .rule .rest) + ruleLetters (r .rule)
+    self = ap (λ (cs : List Child). length (3 ∷ r .state ∷ r .symbol ∷ textOf (r .rule .first) ++ childrenText cs)) (numbered-self (r .rule .rest)) ∙ length-row (λ q. q) (r .state) r
+
+module _ (same : Test) (M : Table) (W : WellMade M) (D : Decides same M) where
+  -- The form is a form.
+  is-form : IsForm M (formOf same M)
+  is-form = record { same = same; decides = D; form = refl }
+
+  -- The form's text is never longer than the table's text.
+  pub form-short : length (writeTable (formOf same M)) ≤ length (writeTable M)
+  unfolding framesOf formOf
+  form-short =
+      let F : Table = formOf same M in
+      omega (
+        arith,
+        length-text F,
+        length-text M,
+        length-append (headFrames F ++ rowFrames (F .rows)) (4 ∷ []),
+        length-append (headFrames F) (rowFrames (F .rows)),
+        length-append (headFrames M ++ rowFrames (M .rows)) (4 ∷ []),
+        length-append (headFrames M) (rowFrames (M .rows)),
+        length-head F,
+        length-head M,
+        rows-total (F .rows),
+        rows-total (M .rows),
+        isForm-total M F W is-form (λ r. length (rowFrame r)) row-any,
+        isForm-rows M F W is-form,
+      )
+
+-- The words of a row are short by any numbers.
+short-any : (number : ℕ → ℕ) (i : ℕ) (r : Row) → ShortRow r → ShortRow (renumber number i r)
+short-any number i r h = (h .0, go (r .rule .rest) (h .1))
+  where
+    go : (cs : List Child) → Each (λ c ds. Short (c .after)) cs → Each (λ c ds. Short (c .after)) (numberedRest number cs)
+    go [] k = tt
+    go (c ∷ cs) k = (k .0, go cs (k .1))
+
+-- The form of a table that is within the limits is within the limits, so that its text is a table text.
+pub form-limited : (same : Test) (M : Table) → Limited M → Decides same M → Limited (formOf same M)
+unfolding formOf
+form-limited same M L D =
+    record {
+      made = form-made same M (L .made) D;
+      some-symbol = L .some-symbol;
+      symbols = L .symbols;
+      arities = L .arities;
+      states = omega (arith, order-length same M (L .made) D, L .states);
+      before = L .before;
+      after = L .after;
+      rows = omega (arith, isForm-rows M (formOf same M) (L .made) (is-form same M (L .made) D), L .rows);
+      short = renumbered-all (numberOf same M) (M .rows) ShortRow zero (order same M)
+          (λ j l. all-map ShortRow (λ r. ShortRow (renumber (numberOf same M) (zero + j) r)) (short-any (numberOf same M) (zero + j)) (rowsOf (M .rows) (getD (order same M) j zero))
+          (rowsOf-all ShortRow (M .rows) (getD (order same M) j zero) (L .short)));
+      text = omega (arith, form-short same M (L .made) D, L .text);
+    }

@@ -1,0 +1,59 @@
+-- `meet_rule` meets its contract: the children of the rule that was found, or none.
+use native.Mathlib.Omega.{arith}
+use Rattle.machine.specs.Machine.{find}
+use Rattle.canon.proofs.Frames.{looked-as, tame-as}
+use Rattle.canon.proofs.Meeting.{rule-gathered, rule-none}
+use borrow.Author.Needs.{needs}
+use Rattle.canon.proofs.meets.meet_rule.Statement.{statement}
+use Rattle.canon.proofs.meets.meet_rule.Tie as tie
+
+rule-of-requires : tie.Need-rule-of-requires
+rule-of-requires c κs = search needs
+
+enum-known-p : tie.Need-enum-known-p
+enum-known-p c = search needs
+
+behind-requires : tie.Need-behind-requires
+behind-requires c κs = let t = tame-as (c .before .p .given .1) (c .before .before .before .rule-of .ensures .1) in omega (arith, t .0)
+
+meet-children-requires : tie.Need-meet-children-requires
+meet-children-requires c κs =
+    let t = tame-as (c .before .before .before .before .p .given .1) (c .before .before .before .before .before .before .rule-of .ensures .1) in
+    (t .1, omega (arith, t .0, c .before .before .behind .ensures .1), c .before .before .before .before .before .before .before .before .before .before .before .before .pre .0, c .before .before .before .before .before .before .before .before .before .before .before .before .pre .1, c .before .before .before .before .before .before .before .before .before .before .before .before .pre .2)
+
+enum-told : tie.Need-enum-told
+enum-told c = search needs
+
+same-length : tie.Need-same-length
+same-length c = search needs
+
+same-length-2 : tie.Need-same-length-2
+same-length-2 c = search needs
+
+returns : tie.Need-returns
+returns c =
+    let a = c .before .before .before .before .before .before .before .before .before .before .before .before .before .before .before .before .before .args in
+    let F = a .frames .now in (
+      c .before .before .before .before .meet-children .ensures .0,
+      λ M o. rule-gathered F (a .q) (a .f) (c .before .before .before .before .before .before .before .behind .result) M (c .before .before .before .before .before .before .before .before .before .p .given .0 .0) (c .before .before .before .before .before .before .before .behind .ensures .0) (looked-as F (find (M .rows) (a .q) (a .f)) (c .before .before .before .before .before .before .before .before .before .p .given .1) (c .before .before .before .before .before .before .before .before .before .before .before .rule-of .ensures .0 F M o)) (c .before .before .before .before .meet-children .ensures .1),
+    )
+
+returns-2 : tie.Need-returns-2
+returns-2 c =
+    let a = c .before .before .before .before .before .before .before .before .args in
+    let F = a .frames .now in
+    (c .before .before .before .before .before .before .before .before .pre .2, λ M o. rule-none F (a .rep .now) (a .order .now) (a .known .now) (a .count) (a .q) (a .f) M (looked-as F (find (M .rows) (a .q) (a .f)) (c .enum-told .given .1) (c .before .before .rule-of .ensures .0 F M o)))
+
+pub meet-rule-spec : {M : Type 1} → statement M
+meet-rule-spec =
+    tie.close
+    (tie.spec
+    rule-of-requires
+    enum-known-p
+    behind-requires
+    meet-children-requires
+    enum-told
+    same-length
+    same-length-2
+    returns
+    returns-2)

@@ -1,0 +1,2 @@
+-- The word call on an opened table.
+pub mod Answer

@@ -1,0 +1,80 @@
+-- `copy` copies n bytes: after i bytes the room is the one at entry with the first i of them pasted over it. Assumes nothing.
+use mathlib.Core.Path.{_≡_, refl, sym, ap, _∙_}
+use mathlib.Core.List.{List}
+use Prim.Native.Nat.{ℕ, _+_, _-_, _<_, _≤_}
+use native.Mathlib.Numerals.{add-one}
+use native.Mathlib.Omega.{arith}
+use borrow.Author.Needs.{needs}
+use lib.ListN.{length, drop, set, getD, length-set, length-drop}
+use lib.Seq.{paste, paste-zero, paste-suc, getD-drop}
+use Rattle.pen.proofs.copy.Statement.{statement}
+use Rattle.pen.proofs.copy.Tie as tie
+
+abbrev Inv-loop : tie.InvT-loop
+Inv-loop frames from room₀ at n i₀ room i = (i ≤ n) × (from + n ≤ length frames → room ≡ paste room₀ at (drop from frames) i) × (length room ≡ length room₀)
+
+abbrev μ-loop : tie.MeasureT-loop
+μ-loop frames from room₀ at n i₀ room i = n - i
+
+loop-holds : tie.Need-loop-holds Inv-loop μ-loop
+loop-holds c = (search needs, λ h. paste-zero (c .args .room .now) (c .args .at) (drop (c .args .from) (c .args .frames .now)), refl)
+
+add-room : tie.Need-add-room Inv-loop μ-loop
+add-room c = search needs
+
+element-copy-out-room : tie.Need-element-copy-out-room Inv-loop μ-loop
+element-copy-out-room c = search needs
+
+add-room-2 : tie.Need-add-room-2 Inv-loop μ-loop
+add-room-2 c = search needs
+
+slice-write-room : tie.Need-slice-write-room Inv-loop μ-loop
+slice-write-room c = search needs
+
+add-i : tie.Need-add-i Inv-loop μ-loop
+add-i c = search needs
+
+loop-less : tie.Need-loop-less Inv-loop μ-loop
+loop-less c = search needs
+
+loop-again : tie.Need-loop-again Inv-loop μ-loop
+loop-again c =
+    let l = c .before .before .loop in
+    let a = c .before .before .before .args in
+    let s : List ℕ = drop (a .from) (a .frames .now) in (
+      search needs,
+      λ h.
+          let b : l .i < length s = simp length-drop (omega arith) in
+          ap (λ (x : List ℕ). set x (a .at + l .i) (getD (a .frames .now) (a .from + l .i) 0)) (l .inv .1 h)
+          ∙ ap (λ (x : ℕ). set (paste (a .room .now) (a .at) s (l .i)) (a .at + l .i) x) (sym (getD-drop (a .from) (a .frames .now) (l .i) 0))
+          ∙ paste-suc (a .room .now) (a .at) s (l .i) 0 (omega arith) b
+          ∙ ap (λ (k : ℕ). paste (a .room .now) (a .at) s k) (sym (add-one (l .i))),
+      simp length-set (l .inv .2),
+    )
+
+same-length : tie.Need-same-length Inv-loop μ-loop
+same-length c = search needs
+
+returns : tie.Need-returns Inv-loop μ-loop
+returns c h =
+    let l = c .before .loop in
+    let a = c .before .before .args in
+    let e : l .i ≡ a .n = omega arith in
+    l .inv .1 h ∙ ap (λ (k : ℕ). paste (a .room .now) (a .at) (drop (a .from) (a .frames .now)) k) e
+
+pub copy-spec : {M : Type 1} → statement M
+copy-spec =
+    tie.close
+    (tie.spec
+    Inv-loop
+    μ-loop
+    loop-holds
+    add-room
+    element-copy-out-room
+    add-room-2
+    slice-write-room
+    add-i
+    loop-less
+    loop-again
+    same-length
+    returns)

@@ -1,0 +1,2 @@
+-- The fast writing pass.
+pub mod Penned

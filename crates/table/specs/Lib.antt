@@ -1,0 +1,2 @@
+-- The reader of table texts.
+pub mod Opening

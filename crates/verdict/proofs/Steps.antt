@@ -1,0 +1,157 @@
+-- Steps over the rows: one row, all rows, all rows until nothing is added.
+use mathlib.Core.Path.{_≡_, refl, sym, ap, _∙_, subst}
+use mathlib.Core.List.{List, [], _∷_, map}
+use Prim.Native.Nat.{ℕ, zero, suc, _+_, _*_, _-_, _≤_, _<_}
+use native.Mathlib.Omega.{arith}
+use lib.ListN.{length, getD, set, length-map, length-set, List·getD-map}
+use lib.Seq.{set-out}
+use Rattle.machine.specs.Machine.{Row}
+use Rattle.ends.specs.Ends.{Side, Ends, unknown, join, value, rank, at, ranks}
+use Rattle.ends.specs.Companion.{visit, sweep}
+use Rattle.ends.proofs.Ranks.{join-rank, ranks-le, ranks-set}
+use Rattle.ends.proofs.Known.{sweep-rests}
+use Rattle.verdict.specs.Codes.{decode, K, summaries}
+use Rattle.verdict.specs.Reading.{rowAt, rowEnd, rowsAt}
+use Rattle.verdict.specs.Steps.{Risen, times, Swept}
+use Rattle.verdict.proofs.Codes.{nothing-known}
+use Rattle.verdict.proofs.Walks.{one-less}
+
+-- A list in which one element is replaced, seen through a function.
+pub map-set : {A B : Type 0} (f : A → B) (l : List A) (i : ℕ) (a : A) → map f (set l i a) ≡ set (map f l) i (f a)
+map-set f [] i a = refl
+map-set f (x ∷ l) zero a = refl
+map-set f (x ∷ l) (suc i) a = ap (λ m. f x ∷ m) (map-set f l i a)
+
+-- The summary of a state in the list of summaries.
+pub summary-at : (xs : List ℕ) (q : ℕ) → at (summaries xs) q ≡ K xs q
+summary-at xs q = ap (λ d. getD (map decode xs) q d) (sym nothing-known) ∙ List·getD-map decode xs q 0
+
+-- The summaries by the states' numbers.
+pub summary-all : (xs : List ℕ) → at (summaries xs) ≡ K xs
+summary-all xs = λ i q. summary-at xs q i
+
+-- How much can be known of all states.
+pub ranks-most : (xs : List ℕ) → ranks (summaries xs) ≤ 3 * length xs
+ranks-most xs = omega (arith, ranks-le (summaries xs), length-map xs decode)
+
+-- ---- one row
+module _ (side : Side) (row : Row) (xs : List ℕ) where
+  -- A row of a state that has no place adds nothing.
+  pub risen-out : length xs ≤ row .state → Risen xs xs 0 (visit side row (summaries xs))
+  unfolding visit
+  risen-out h = record { long = refl; meets = sym (set-out (summaries xs) (row .state) _ (rw (length-map xs decode) h)); counts = omega arith }
+
+  -- How much a row adds to its state.
+  pub risen-one : (q v n a b : ℕ) → q ≡ row .state → q < length xs → decode v ≡ value side (K xs) (row .rule) → decode n ≡ join (decode (getD xs q 0)) (decode v) → b ≡ rank (decode n) → a ≡ rank (decode (getD xs q 0))
+      → (a ≤ b) × Risen xs (set xs q n) (b - a) (visit side row (summaries xs))
+  unfolding visit
+  risen-one q v n a b eq l ev en eb ea = (up, record { long = length-set xs q n; meets = there ∙ stored; counts = rises })
+    where
+      there : summaries (set xs q n) ≡ set (summaries xs) q (decode n)
+      there = map-set decode xs q n
+
+      old : at (summaries xs) q ≡ decode (getD xs q 0)
+      old = summary-at xs q
+
+      wanted : decode n ≡ join (at (summaries xs) q) (value side (at (summaries xs)) (row .rule))
+      wanted = en ∙ ap (join (decode (getD xs q 0))) ev ∙ ap (λ y. join y (value side (K xs) (row .rule))) (sym old) ∙ ap (λ k. join (at (summaries xs) q) (value side k (row .rule))) (sym (summary-all xs))
+
+      stored : set (summaries xs) q (decode n) ≡ set (summaries xs) (row .state) (join (at (summaries xs) (row .state)) (value side (at (summaries xs)) (row .rule)))
+      stored = ap (set (summaries xs) q) wanted ∙ ap (λ s. set (summaries xs) s (join (at (summaries xs) s) (value side (at (summaries xs)) (row .rule)))) eq
+
+      up : a ≤ b
+      up = omega (arith, ea, eb, ap rank en, join-rank (decode (getD xs q 0)) (decode v))
+
+      rises : ranks (summaries (set xs q n)) ≡ ranks (summaries xs) + (b - a)
+      rises = omega (arith, ap ranks there, ranks-set (summaries xs) q (decode n) (rw (length-map xs decode) l), ap rank old, ea, eb, up)
+
+-- ---- all rows
+module _ (F : List ℕ) (p : ℕ) where
+  -- The first of some rows.
+  pub rows-more : (n : ℕ) → 0 < n → rowsAt F p n ≡ rowAt F p ∷ rowsAt F (rowEnd F p) (n - 1)
+  unfolding rowsAt
+  rows-more zero h = absurd (omega arith)
+  rows-more (suc n) h = ap (λ k. rowAt F p ∷ rowsAt F (rowEnd F p) k) (one-less n)
+
+  -- No rows.
+  pub rows-none : (n : ℕ) → n ≡ 0 → rowsAt F p n ≡ []
+  unfolding rowsAt
+  rows-none n e = ap (rowsAt F p) e
+
+module _ (F : List ℕ) (side : Side) where
+  -- A sweep over some rows is a sweep over the others after the first.
+  pub sweep-more : (p n : ℕ) → 0 < n → (vs : List Ends) → sweep side (rowsAt F p n) vs ≡ sweep side (rowsAt F (rowEnd F p) (n - 1)) (visit side (rowAt F p) vs)
+  unfolding sweep
+  sweep-more p n h vs = ap (λ rows. sweep side rows vs) (rows-more F p n h)
+
+  -- A sweep over no rows.
+  pub sweep-none : (p n : ℕ) → n ≡ 0 → (vs : List Ends) → sweep side (rowsAt F p n) vs ≡ vs
+  unfolding sweep
+  sweep-none p n e vs = ap (λ rows. sweep side rows vs) (rows-none F p n e)
+
+  -- On the way through the rows: ys have risen by k, and the n rows from p on are still to be added.
+  pub record Going (xs ys : List ℕ) (k p n : ℕ) (wanted : List Ends) : Type 0 where
+    pub near : p ≤ 32768
+    pub long : length ys ≡ length xs
+    pub remains : sweep side (rowsAt F p n) (summaries ys) ≡ wanted
+    pub counts : ranks (summaries ys) ≡ ranks (summaries xs) + k
+
+  -- In the beginning.
+  pub going-none : (xs : List ℕ) (p n : ℕ) → p ≤ 32768 → Going xs xs 0 p n (sweep side (rowsAt F p n) (summaries xs))
+  going-none xs p n h = record { near = h; long = refl; remains = refl; counts = omega arith }
+
+  -- One row more.
+  pub going-more : {xs ys zs : List ℕ} {k j p n : ℕ} {wanted : List Ends} → Going xs ys k p n wanted → 0 < n → Risen ys zs j (visit side (rowAt F p) (summaries ys)) → (m : ℕ) → m ≡ rowEnd F p → m ≤ 32768 → Going xs zs (k + j) m (n - 1) wanted
+  going-more {xs} {ys} {zs} {k} {j} {p} {n} g l h m e near =
+      record {
+        near = near;
+        long = h .long ∙ g .long;
+        remains = ap (λ x. sweep side (rowsAt F x (n - 1)) (summaries zs)) e ∙ ap (sweep side (rowsAt F (rowEnd F p) (n - 1))) (h .meets) ∙ sym (sweep-more p n l (summaries ys)) ∙ g .remains;
+        counts = omega (arith, g .counts, h .counts);
+      }
+
+  -- In the end.
+  pub going-done : {xs ys : List ℕ} {k p n : ℕ} {wanted : List Ends} → Going xs ys k p n wanted → n ≡ 0 → Risen xs ys k wanted
+  going-done {xs} {ys} {k} {p} {n} g e = record { long = g .long; meets = sym (sweep-none p n e (summaries ys)) ∙ g .remains; counts = g .counts }
+
+  -- With one row more it has risen by at most what can be known.
+  pub going-most : {xs ys zs : List ℕ} {k j p n : ℕ} {wanted next : List Ends} → Going xs ys k p n wanted → Risen ys zs j next → k + j ≤ 3 * length xs
+  going-most {zs = zs} g h = omega (arith, g .counts, g .long, h .counts, h .long, ranks-most zs)
+
+-- What rises leaves less to be known.
+pub risen-less : {xs ys : List ℕ} {k : ℕ} {wanted : List Ends} → Risen xs ys k wanted → length xs ≡ 64 → (k ≡ 0 → ⊥) → 192 - ranks (summaries ys) < 192 - ranks (summaries xs)
+risen-less {ys = ys} h l n = omega (arith, h .counts, h .long, ranks-most ys)
+
+-- ---- all rows until nothing is added
+-- A sweep after which no more is known changes nothing.
+sweep-still : (side : Side) (rows : List Row) (vs : List Ends) → ranks (sweep side rows vs) ≡ ranks vs → sweep side rows vs ≡ vs
+unfolding sweep
+sweep-still side [] vs e = refl
+sweep-still side (row ∷ rows) vs e =
+    let s : visit side row vs ≡ vs = sweep-rests side (row ∷ rows) vs e zero row refl in
+    ap (sweep side rows) s ∙ sweep-still side rows vs (subst (λ x. ranks (sweep side rows x) ≡ ranks vs) s e)
+
+module _ (side : Side) (rows : List Row) (xs : List ℕ) where
+  -- The summaries are what n sweeps make of those in the beginning.
+  pub record After (ys : List ℕ) : Type 0 where
+    pub long : length ys ≡ length xs
+    pub rounds : ℕ
+    pub meets : summaries ys ≡ times rounds (sweep side rows) (summaries xs)
+
+  -- No sweep.
+  pub after-none : After xs
+  unfolding times
+  after-none = record { long = refl; rounds = 0; meets = refl }
+
+  -- One sweep more.
+  pub after-more : {ys zs : List ℕ} {k : ℕ} → After ys → Risen ys zs k (sweep side rows (summaries ys)) → After zs
+  unfolding times
+  after-more a h = record { long = h .long ∙ a .long; rounds = suc (a .rounds); meets = h .meets ∙ ap (sweep side rows) (a .meets) }
+
+  -- One sweep that adds nothing.
+  pub after-last : {ys zs : List ℕ} {k : ℕ} → After ys → Risen ys zs k (sweep side rows (summaries ys)) → k ≡ 0 → Swept side rows xs zs
+  after-last {ys} {zs} {k} a h e =
+      let r : ranks (sweep side rows (summaries ys)) ≡ ranks (summaries ys) = omega (arith, ap ranks (h .meets), h .counts) in
+      let same : summaries zs ≡ summaries ys = h .meets ∙ sweep-still side rows (summaries ys) r in
+      let b = after-more a h in
+      record { long = b .long; rounds = b .rounds; meets = b .meets; rests = ap (λ vs. ranks (sweep side rows vs)) same ∙ sym (ap ranks (h .meets)) }

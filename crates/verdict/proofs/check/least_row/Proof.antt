@@ -1,0 +1,74 @@
+-- `least_row` meets its contract. Invariant: the rows from i on stand from p on, and the search from i on finds what the whole search finds.
+use borrow.Author.Tests.{not-true, not-false}
+use mathlib.Core.Path.{_≡_, sym, ap, _∙_}
+use Prim.Native.Nat.{_-_, _≤_}
+use native.Mathlib.Omega.{arith}
+use lib.ListN.{getElem?}
+use Rattle.ends.specs.Companion.{least, freeRow}
+use Rattle.verdict.specs.Codes.{K}
+use Rattle.verdict.specs.Reading.{rowsAt}
+use Rattle.verdict.proofs.Checks.{least-on, least-here, least-end, Standing, standing-row, standing-more, standing-first}
+use borrow.Author.Needs.{needs}
+use Rattle.verdict.proofs.check.least_row.Statement.{statement}
+use Rattle.verdict.proofs.check.least_row.Tie as tie
+
+abbrev Inv-loop : tie.InvT-loop
+Inv-loop frames rows rules left p₀ i₀ p i = (p ≤ 32768) × (i ≤ rules) × Standing frames rows rules i p × (least (λ j. freeRow (K left) (getElem? (rowsAt frames rows rules) j)) (rules - i) i ≡ least (λ j. freeRow (K left) (getElem? (rowsAt frames rows rules) j)) rules 0)
+
+abbrev μ-loop : tie.MeasureT-loop
+μ-loop frames rows rules left p₀ i₀ p i = rules - i
+
+loop-holds : tie.Need-loop-holds Inv-loop μ-loop
+loop-holds c = (c .before .before .pre, omega arith, standing-first (c .before .before .args .frames .now) (c .before .before .args .rows) (c .before .before .args .rules), ap (λ n. least (λ j. freeRow (K (c .before .before .args .left .now)) (getElem? (rowsAt (c .before .before .args .frames .now) (c .before .before .args .rows) (c .before .before .args .rules)) j)) n 0) (omega arith))
+
+free-row-requires : tie.Need-free-row-requires Inv-loop μ-loop
+free-row-requires c κs = search needs
+
+returns : tie.Need-returns Inv-loop μ-loop
+returns c =
+    let F = c .before .before .before .before .before .before .args .frames .now in
+    let k = K (c .before .before .before .before .before .before .args .left .now) in
+    let rows = c .before .before .before .before .before .before .args .rows in
+    let rules = c .before .before .before .before .before .before .args .rules in
+    let e = standing-row F rows rules (c .before .before .before .loop .i) (c .before .before .before .loop .p) (c .before .before .before .loop .inv .2) (c .before .before .loop-test .taken) in
+    least-here (λ j. freeRow k (getElem? (rowsAt F rows rules) j)) rules (c .before .before .before .loop .i) (c .before .before .loop-test .taken) (ap (freeRow k) e ∙ sym (c .before .free-row .ensures) ∙ not-true _ (c .if1 .taken)) ∙ c .before .before .before .loop .inv .3
+
+past-row-requires : tie.Need-past-row-requires Inv-loop μ-loop
+past-row-requires c κs = search needs
+
+add-i : tie.Need-add-i Inv-loop μ-loop
+add-i c = search needs
+
+loop-less : tie.Need-loop-less Inv-loop μ-loop
+loop-less c = search needs
+
+loop-again : tie.Need-loop-again Inv-loop μ-loop
+loop-again c =
+    let F = c .before .before .before .before .before .before .before .args .frames .now in
+    let k = K (c .before .before .before .before .before .before .before .args .left .now) in
+    let rows = c .before .before .before .before .before .before .before .args .rows in
+    let rules = c .before .before .before .before .before .before .before .args .rules in
+    let e = standing-row F rows rules (c .before .before .before .before .loop .i) (c .before .before .before .before .loop .p) (c .before .before .before .before .loop .inv .2) (c .before .before .before .loop-test .taken) in (
+      c .past-row .ensures .1,
+      omega arith,
+      standing-more F rows rules (c .before .before .before .before .loop .i) (c .before .before .before .before .loop .p) (c .before .before .before .before .loop .inv .2) (c .before .before .before .loop-test .taken) (c .past-row .result) (c .past-row .ensures .0),
+      least-on (λ j. freeRow k (getElem? (rowsAt F rows rules) j)) rules (c .before .before .before .before .loop .i) (c .before .before .before .loop-test .taken) (ap (freeRow k) e ∙ sym (c .before .before .free-row .ensures) ∙ not-false _ (c .before .if1 .left)) ∙ c .before .before .before .before .loop .inv .3,
+    )
+
+returns-2 : tie.Need-returns-2 Inv-loop μ-loop
+returns-2 c = least-end (λ j. freeRow (K (c .before .before .before .before .args .left .now)) (getElem? (rowsAt (c .before .before .before .before .args .frames .now) (c .before .before .before .before .args .rows) (c .before .before .before .before .args .rules)) j)) (c .before .before .before .before .args .rules) (c .before .loop .i) (omega arith) ∙ c .before .loop .inv .3
+
+pub least-row-spec : {M : Type 1} → statement M
+least-row-spec =
+    tie.close
+    (tie.spec
+    Inv-loop
+    μ-loop
+    loop-holds
+    free-row-requires
+    returns
+    past-row-requires
+    add-i
+    loop-less
+    loop-again
+    returns-2)

@@ -1,0 +1,24 @@
+-- `start_fault` meets its contract.
+use mathlib.Core.Path.{sym, ap, _∙_}
+use Rattle.ends.specs.Ends.{stuck}
+use Rattle.layout.specs.Leaves.{wordAt}
+use Rattle.verdict.specs.Codes.{decode, K}
+use Rattle.verdict.proofs.Checks.{start-found, start-free}
+use borrow.Author.Needs.{needs}
+use Rattle.verdict.proofs.check.start_fault.Statement.{statement}
+use Rattle.verdict.proofs.check.start_fault.Tie as tie
+
+kept-requires : tie.Need-kept-requires
+kept-requires c κs = search needs
+
+stuck-at-requires : tie.Need-stuck-at-requires
+stuck-at-requires c κs = search needs
+
+returns : tie.Need-returns
+returns c = start-found (stuck (K (c .before .before .before .before .before .args .left .now) (c .before .before .before .before .before .args .start)) (wordAt (c .before .before .before .before .before .args .frames .now) (c .before .before .before .before .before .args .after))) (sym (c .before .stuck-at .ensures ∙ ap (λ n. stuck (decode n) (wordAt (c .before .before .before .before .before .args .frames .now) (c .before .before .before .before .before .args .after))) (c .before .before .kept .ensures)) ∙ c .if1 .taken)
+
+returns-2 : tie.Need-returns-2
+returns-2 c = start-free (stuck (K (c .before .before .before .before .before .args .left .now) (c .before .before .before .before .before .args .start)) (wordAt (c .before .before .before .before .before .args .frames .now) (c .before .before .before .before .before .args .after))) (sym (c .before .stuck-at .ensures ∙ ap (λ n. stuck (decode n) (wordAt (c .before .before .before .before .before .args .frames .now) (c .before .before .before .before .before .args .after))) (c .before .before .kept .ensures)) ∙ c .if1 .left)
+
+pub start-fault-spec : {M : Type 1} → statement M
+start-fault-spec = tie.close (tie.spec kept-requires stuck-at-requires returns returns-2)

@@ -1,0 +1,102 @@
+-- `mark_rest` meets its contract. Invariant: marking the children that are left makes of these marks what is wanted.
+use mathlib.Core.Path.{refl, sym, ap, _∙_}
+use mathlib.Core.Bool.{true}
+use Prim.Native.Nat.{_+_, _-_}
+use native.Mathlib.Omega.{arith}
+use lib.ListN.{set}
+use Rattle.ends.specs.Companion.{markAll}
+use Rattle.verdict.specs.Codes.{flags}
+use Rattle.verdict.specs.Reading.{pastAt, childrenAt, rowAt}
+use Rattle.verdict.proofs.Marks.{Going, going-more, going-done, going-most, mark-more, mark-none}
+use lib.ListN.{getD}
+use borrow.Author.Needs.{needs}
+use Rattle.verdict.proofs.reach.mark_rest.Statement.{statement}
+use Rattle.verdict.proofs.reach.mark_rest.Tie as tie
+
+abbrev Inv-loop : tie.InvT-loop
+Inv-loop frames at marks₀ kids₀ p₀ k₀ marks kids p k = Going marks₀ marks k p (markAll (childrenAt frames p kids)) (markAll (rowAt frames at .rule .rest) (flags marks₀))
+
+abbrev μ-loop : tie.MeasureT-loop
+μ-loop frames at marks₀ kids₀ p₀ k₀ marks kids p k = kids
+
+kids-at-requires : tie.Need-kids-at-requires Inv-loop μ-loop
+kids-at-requires c κs = search needs
+
+add-past : tie.Need-add-past Inv-loop μ-loop
+add-past c = search needs
+
+past-requires : tie.Need-past-requires Inv-loop μ-loop
+past-requires c κs = search needs
+
+loop-holds : tie.Need-loop-holds Inv-loop μ-loop
+loop-holds c =
+    let F = c .before .before .before .before .args .frames .now in
+    let m = c .before .before .before .before .args .marks .now in
+    record {
+      near = c .past .ensures .1;
+      long = refl;
+      remains = ap (λ n. markAll (childrenAt F n (c .before .kids-at .result)) (flags m)) (c .past .ensures .0) ∙ ap (λ n. markAll (childrenAt F (pastAt F (c .before .before .before .before .args .at + 3)) n) (flags m)) (c .before .kids-at .ensures .0);
+      counts = omega arith;
+    }
+
+byte-requires : tie.Need-byte-requires Inv-loop μ-loop
+byte-requires c κs = search needs
+
+wide-requires : tie.Need-wide-requires Inv-loop μ-loop
+wide-requires c κs = search needs
+
+mark-at-requires : tie.Need-mark-at-requires Inv-loop μ-loop
+mark-at-requires c κs = search needs
+
+add-k : tie.Need-add-k Inv-loop μ-loop
+add-k c = omega (arith, going-most (c .before .before .before .before .before .before .before .loop .inv) (c .before .before .mark-at .ensures), c .before .before .before .before .before .before .before .before .before .before .before .before .pre .1)
+
+add-past-2 : tie.Need-add-past-2 Inv-loop μ-loop
+add-past-2 c = omega (arith, c .before .before .before .before .before .before .before .loop .inv .near)
+
+past-requires-2 : tie.Need-past-requires-2 Inv-loop μ-loop
+past-requires-2 c κs = omega (arith, c .before .before .before .before .before .before .before .loop .inv .near)
+
+sub-kids : tie.Need-sub-kids Inv-loop μ-loop
+sub-kids c = search needs
+
+loop-less : tie.Need-loop-less Inv-loop μ-loop
+loop-less c = search needs
+
+loop-again : tie.Need-loop-again Inv-loop μ-loop
+loop-again c =
+    let F = c .before .before .before .before .before .before .before .before .before .before .before .before .before .args .frames .now in
+    let p = c .before .before .before .before .before .before .before .before .loop .p in
+    let kids = c .before .before .before .before .before .before .before .before .loop .kids in
+    let q = c .before .before .before .before .before .wide .result in
+    going-more (c .before .before .before .before .before .before .before .before .loop .inv) (λ ms. set ms q true) (c .before .before .before .mark-at .ensures) (markAll (childrenAt F (c .past2 .result) (kids - 1)))
+    (λ ms. mark-more F p kids (c .before .before .before .before .before .before .before .loop-test .taken) ms ∙ ap (λ x. markAll (childrenAt F x (kids - 1)) (set ms (getD F p 0) true)) (sym (c .past2 .ensures .0)) ∙ ap (λ x. markAll (childrenAt F (c .past2 .result) (kids - 1)) (set ms x true)) (sym (c .before .before .before .before .before .wide .ensures .0 ∙ c .before .before .before .before .before .before .byte .ensures)))
+    (c .past2 .result) (c .past2 .ensures .1)
+
+same-length : tie.Need-same-length Inv-loop μ-loop
+same-length c = c .before .loop .inv .long
+
+returns : tie.Need-returns Inv-loop μ-loop
+returns c = going-done (c .before .loop .inv) (mark-none (c .before .before .before .before .before .before .args .frames .now) (c .before .loop .p) (c .before .loop .kids) (omega arith))
+
+pub mark-rest-spec : {M : Type 1} → statement M
+mark-rest-spec =
+    tie.close
+    (tie.spec
+    Inv-loop
+    μ-loop
+    kids-at-requires
+    add-past
+    past-requires
+    loop-holds
+    byte-requires
+    wide-requires
+    mark-at-requires
+    add-k
+    add-past-2
+    past-requires-2
+    sub-kids
+    loop-less
+    loop-again
+    same-length
+    returns)

@@ -1,0 +1,74 @@
+-- `add_row` meets its contract: a state without a place, or how much its summary rises.
+use mathlib.Core.Path.{_∙_}
+use native.Mathlib.Omega.{arith}
+use Rattle.verdict.specs.Codes.{sideOf}
+use Rattle.verdict.specs.Reading.{rowAt}
+use Rattle.verdict.proofs.Steps.{risen-out, risen-one}
+use borrow.Author.Needs.{needs}
+use Rattle.verdict.proofs.sweeps.add_row.Statement.{statement}
+use Rattle.verdict.proofs.sweeps.add_row.Tie as tie
+
+add-byte : tie.Need-add-byte
+add-byte c = search needs
+
+byte-requires : tie.Need-byte-requires
+byte-requires c κs = search needs
+
+wide-requires : tie.Need-wide-requires
+wide-requires c κs = search needs
+
+returns : tie.Need-returns
+returns c = risen-out (sideOf (c .before .before .before .before .before .args .side)) (rowAt (c .before .before .before .before .before .args .frames .now) (c .before .before .before .before .before .args .at)) (c .before .before .before .before .before .args .values .now) (omega (arith, c .before .wide .ensures .0, c .before .before .byte .ensures))
+
+mul-old : tie.Need-mul-old
+mul-old c = search needs
+
+slice-read-old : tie.Need-slice-read-old
+slice-read-old c = search needs
+
+row-value-requires : tie.Need-row-value-requires
+row-value-requires c κs = search needs
+
+joined-requires : tie.Need-joined-requires
+joined-requires c κs = search needs
+
+mul-values : tie.Need-mul-values
+mul-values c = search needs
+
+slice-write-values : tie.Need-slice-write-values
+slice-write-values c = search needs
+
+rank-of-requires : tie.Need-rank-of-requires
+rank-of-requires c κs = search needs
+
+rank-of-requires-2 : tie.Need-rank-of-requires-2
+rank-of-requires-2 c κs = search needs
+
+sub-result : tie.Need-sub-result
+sub-result c = omega (arith, risen-one (sideOf (c .before .before .before .before .before .before .before .before .before .before .before .args .side)) (rowAt (c .before .before .before .before .before .before .before .before .before .before .before .args .frames .now) (c .before .before .before .before .before .before .before .before .before .before .before .args .at)) (c .before .before .before .before .before .before .before .before .before .before .before .args .values .now) (c .before .before .before .before .before .before .before .wide .result) (c .before .before .before .row-value .result) (c .before .before .joined .result) (c .rank-of2 .result) (c .before .rank-of .result) (c .before .before .before .before .before .before .before .wide .ensures .0 ∙ c .before .before .before .before .before .before .before .before .byte .ensures) (omega arith) (c .before .before .before .row-value .ensures) (c .before .before .joined .ensures) (c .before .rank-of .ensures) (c .rank-of2 .ensures) .0)
+
+same-length : tie.Need-same-length
+same-length c = search needs
+
+returns-2 : tie.Need-returns-2
+returns-2 c = risen-one (sideOf (c .before .before .before .before .before .before .before .before .before .before .before .args .side)) (rowAt (c .before .before .before .before .before .before .before .before .before .before .before .args .frames .now) (c .before .before .before .before .before .before .before .before .before .before .before .args .at)) (c .before .before .before .before .before .before .before .before .before .before .before .args .values .now) (c .before .before .before .before .before .before .before .wide .result) (c .before .before .before .row-value .result) (c .before .before .joined .result) (c .rank-of2 .result) (c .before .rank-of .result) (c .before .before .before .before .before .before .before .wide .ensures .0 ∙ c .before .before .before .before .before .before .before .before .byte .ensures) (omega arith) (c .before .before .before .row-value .ensures) (c .before .before .joined .ensures) (c .before .rank-of .ensures) (c .rank-of2 .ensures) .1
+
+pub add-row-spec : {M : Type 1} → statement M
+add-row-spec =
+    tie.close
+    (tie.spec
+    add-byte
+    byte-requires
+    wide-requires
+    returns
+    mul-old
+    slice-read-old
+    row-value-requires
+    joined-requires
+    mul-values
+    slice-write-values
+    rank-of-requires
+    rank-of-requires-2
+    sub-result
+    same-length
+    returns-2)
