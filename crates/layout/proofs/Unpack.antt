@@ -1,12 +1,10 @@
 -- Unpacking an entry: each number that was packed into it is read off by a division and a remainder.
 use mathlib.Core.Path.{_≡_}
-use mathlib.Core.Bool.{Bool, true, false}
 use mathlib.Core.List.{List, [], _∷_}
-use Prim.Native.Nat.{ℕ, zero, suc, _+_, _*_, _/_, _%_, _^_, _<_, _≤_}
+use Prim.Native.Nat.{ℕ, _+_, _*_, _/_, _%_, _^_, _<_, _≤_}
 use native.Mathlib.Omega.{arith}
-use lib.Dec.{eqb}
 use lib.ListN.{length}
-use Rattle.words.specs.Word.{Word, spaces}
+use Rattle.words.specs.Word.{spaces}
 use Rattle.machine.specs.Machine.{Child, Rule, Each}
 use Rattle.layout.proofs.Modest.{Modest}
 use Rattle.words.proofs.Terms.{spaces-length}

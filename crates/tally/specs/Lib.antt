@@ -1,0 +1,2 @@
+-- The fast measuring pass.
+pub mod Tallied

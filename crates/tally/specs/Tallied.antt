@@ -1,0 +1,35 @@
+-- What the fast measuring pass answers. Definitions only.
+use mathlib.Core.Path.{_≡_}
+use mathlib.Core.List.{List}
+use mathlib.Core.Option.{some}
+use Prim.Native.Nat.{ℕ, _<_}
+use lib.ListN.{length}
+use Rattle.words.specs.Word.{Word, spaces}
+use Rattle.machine.specs.Machine.{Tree, Table, word}
+use Rattle.machine.specs.Ranks.{Ranked}
+use Rattle.trees.specs.Preorder.{preorder, Levels}
+use Rattle.walk.specs.Plan.{Planned}
+use Rattle.tally.specs.declared.Tally.{Tally}
+use Rattle.tally.specs.declared.Tally.the-variants as tally
+
+-- The bytes S are a tree of at most 64 levels over M's symbols, state q has a word on it with so many letters and letters 20, and the plan P names its rules.
+pub record Counted (F S P : List ℕ) (M : Table) (q letters gaps : ℕ) : Type 0 where
+  pub tree : Tree
+  pub bytes : S ≡ preorder tree
+  pub ranked : Ranked (M .arities) tree
+  pub levels : Levels tree 64
+  pub letters-of : Word
+  pub is : word M q tree ≡ some letters-of
+  pub many : letters ≡ length letters-of
+  pub gaps-many : gaps ≡ spaces letters-of
+  pub planned : Planned F P M tree q 0
+
+-- What a tally says: where it counted, that; where it did not, nothing (the slow pass then tells why).
+abbrev pub Tallied : List ℕ → List ℕ → List ℕ → Table → ℕ → Tally → Type 0
+Tallied F S P M q (tally.Counted letters gaps) = Counted F S P M q letters gaps
+Tallied F S P M q tally.Other = Unit {0}
+
+-- The number that comes next behind a rule with k children: what waits below it if there are none, else the first child's.
+pub record NextIs (k below first next : ℕ) : Type 0 where
+  pub none : k ≡ 0 → next ≡ below
+  pub some : 0 < k → next ≡ first

@@ -1,0 +1,147 @@
+// The fast measuring pass: shape, letters and letters 20 of a tree in one loop over its bytes,
+// which leaves the plan for the writing pass. Where it meets anything unusual it says so, and the
+// slow pass finds the number and the place.
+ghost use mathlib.Core.Path.{_≡_};
+ghost use mathlib.Core.List.{List};
+ghost use Prim.Native.Nat.{ℕ, suc, _+_, _*_, _/_, _%_, _<_, _≤_};
+ghost use lib.ListN.{length};
+ghost use Rattle.machine.specs.Machine.{Table};
+ghost use Rattle.layout.specs.Layout.{Opened};
+ghost use Rattle.tally.specs.Tallied.{Tallied, NextIs};
+
+// A tree's letters and letters 20; or that it is no tree with a word.
+pub enum Tally {
+    Counted { letters: usize, gaps: usize },
+    Other,
+}
+
+fn wide(x: u8) -> usize
+    ensures { λ r. ⌜ (r ≡ x) × (r < 256) ⌝ }
+{
+    x as usize
+}
+
+// The part of a rule's number that counts: letters, and letters 20 from bit 28 on.
+fn counts(x: u64) -> u64
+    ensures { λ r. ⌜ (r ≡ x % 256 + x / 268435456 % 256 * 268435456) × (r ≤ 68451041535) ⌝ }
+{
+    x % 256 + x / 268435456 % 256 * 268435456
+}
+
+// The plan's number of a rule: where it stands, and from 16,384 on how many children it has.
+fn plan_of(x: u64) -> u32
+    ensures { λ r. ⌜ r ≡ x / 256 % 16384 + x / 18014398509481984 % 8 * 16384 ⌝ }
+{
+    (x / 256 % 16384 + x / 18014398509481984 % 8 * 16384) as u32
+}
+
+// How many children a rule has.
+fn kids(x: u64) -> usize
+    ensures { λ r. ⌜ (r ≡ x / 18014398509481984 % 8) × (r < 8) ⌝ }
+{
+    (x / 18014398509481984 % 8) as usize
+}
+
+// Where the index's number for a waiting number's state and a symbol stands.
+fn entry_of(next: u64, f: usize) -> usize
+    requires { ⌜ f < 64 ⌝ }
+    ensures { λ r. ⌜ (r ≡ next % 64 * 64 + f) × (r < 4096) ⌝ }
+{
+    (next % 64) as usize * 64 + f
+}
+
+// 64 for each symbol above the children of a waiting number's symbol.
+fn level_below(next: u64) -> u64
+    requires { ⌜ next ≤ 4095 ⌝ }
+    ensures { λ r. ⌜ (r ≡ 64 * suc (next / 64)) × (r ≤ 4096) ⌝ }
+{
+    next - next % 64 + 64
+}
+
+// The waiting number of a rule's first child: its state in the rule's number, with 64 for each symbol above it.
+fn first_child(x: u64, level: u64) -> u64
+    requires { ⌜ level ≤ 4096 ⌝ }
+    ensures { λ r. ⌜ r ≡ level + x / 4194304 % 64 ⌝ }
+{
+    level + x / 4194304 % 64
+}
+
+// The same for a child behind the first, whose state stands from a unit on.
+fn child(x: u64, unit: u64, level: u64) -> u16
+    requires { ⌜ (0 < unit) × (level ≤ 4096) ⌝ }
+    ensures { λ r. ⌜ r ≡ level + x / unit % 64 ⌝ }
+{
+    (level + x / unit % 64) as u16
+}
+
+// The number that comes next: what waits below if a rule has no children, else the first child's.
+fn next_of(kids: usize, below: u16, first: u64) -> u64
+    ensures { λ r. ⌜ NextIs kids below first r ⌝ }
+{
+    if kids == 0 { below as u64 } else { first }
+}
+
+// Measures the tree that tree bytes are, from state q on, and plans its writing.
+pub fn measure(index: &[u64; 4096], tree: &[u8], plan: &mut [u32; 32768], q: usize) -> Tally
+    ensures { λ r. ⌜ ((F : List ℕ) (M : Table) → Opened F (now (index .entry)) M → Tallied F (now (tree .entry)) (now (plan .exit)) M q r) ⌝ }
+{
+    if tree.len() == 0 {
+        return Tally::Other;
+    }
+    if 32768 < tree.len() {
+        return Tally::Other;
+    }
+    if 63 < q {
+        return Tally::Other;
+    }
+    // The plan's last place is there: what is written is read back.
+    let last = tree.len() - 1;
+    plan[last] = 1;
+    if plan[last] == 0 {
+        return Tally::Other;
+    }
+    let mut waiting = [0u16; 208];
+    waiting[0] = 65535;
+    let mut top: usize = 1;
+    let mut next = q as u64;
+    let mut sum: u64 = 0;
+    let mut at = 0;
+    while at < tree.len() {
+        let f = wide(tree[at]);
+        if 63 < f {
+            return Tally::Other;
+        }
+        if 4095 < next {
+            return Tally::Other;
+        }
+        if top == 0 {
+            return Tally::Other;
+        }
+        if 200 < top {
+            return Tally::Other;
+        }
+        let x = index[entry_of(next, f)];
+        if x == 0 {
+            return Tally::Other;
+        }
+        plan[at] = plan_of(x);
+        sum = sum + counts(x);
+        let level = level_below(next);
+        let below = waiting[top - 1];
+        let first = first_child(x, level);
+        waiting[top] = child(x, 68719476736, level);
+        waiting[top + 1] = child(x, 4398046511104, level);
+        waiting[top + 2] = child(x, 281474976710656, level);
+        let k = kids(x);
+        next = next_of(k, below, first);
+        top = top + k - 1;
+        at += 1;
+    }
+    if 0 < top {
+        return Tally::Other;
+    }
+    Tally::Counted {
+        letters: (sum % 268435456) as usize,
+        gaps: (sum / 268435456) as usize,
+    }
+}
