@@ -2,28 +2,23 @@
 use mathlib.Core.Path.{_≡_, refl, sym, ap, _∙_}
 use mathlib.Core.List.{List, [], _∷_, _++_, map, map-append}
 use mathlib.Core.Option.{Option, none, some}
-use Prim.Native.Nat.{ℕ, zero, suc, _+_, _*_, _<_, _≤_}
+use Prim.Native.Nat.{ℕ, zero, _+_, _*_, _<_}
 use native.Mathlib.Numerals.{add-one}
 use native.Mathlib.Omega.{arith}
-use lib.ListN.{length, getD, take, length-append, length-map}
+use lib.ListN.{length, getD, take, length-append}
 use Rattle.machine.specs.Machine.{Child, Rule, Row, Table, WellMade, find}
-use Rattle.machine.specs.Form.{Test, Decides, order, numberIn, rowsOf, renumber, renumbered, formOf, IsForm}
+use Rattle.machine.specs.Form.{Test, order, numberIn, rowsOf, renumber, renumbered, formOf}
 use Rattle.normal.specs.Listed.{numberedRest}
-use Rattle.text.specs.Lines.{hexOf, lineOf}
+use Rattle.text.specs.Lines.{lineOf}
 use Rattle.text.specs.Writing.{textOf, childrenText, rowFrame, initialFrame, symbolLines, rowLines, writeTable}
-use Rattle.layout.specs.Layout.{restLetters, ruleLetters, Opened}
-use Rattle.layout.specs.Leaves.{PlaceOf, LookedUp}
+use Rattle.layout.specs.Layout.{restLetters, ruleLetters}
+use Rattle.layout.specs.Leaves.{LookedUp}
 use Rattle.layout.specs.declared.Place.{Place}
 use Rattle.layout.specs.declared.Lookup.the-variants.{Found, Missing}
-use Rattle.canon.specs.Visiting.{rowOf, rowsBelow, Numbered}
-use Rattle.canon.proofs.Room.{length-hex}
+use Rattle.canon.specs.Visiting.{rowOf, rowsBelow}
+use Rattle.text.proofs.Lines.{length-line}
 use Rattle.canon.proofs.Below.{rows-below}
 use Rattle.canon.proofs.Frames.{lines-append, renumbered-more}
-
--- A line has two digits a byte and a line feed.
-length-line : (bs : List ℕ) → length (lineOf bs) ≡ 2 * length bs + 1
-unfolding lineOf
-length-line bs = simp length-append (omega (arith, length-hex bs))
 
 -- The children of a rule, by any numbers.
 length-children : (number : ℕ → ℕ) (cs : List Child) → length (childrenText (numberedRest number cs)) ≡ 2 * length cs + restLetters cs

@@ -1,4 +1,14 @@
--- Laws of the form's writing.
+-- Laws of the form of an opened table:
+--   Room       wrote-none, wrote-then, wrote-as: writing in pieces. wrote-filled: what fits comes first, and the rest of the room is unchanged. hex-append, digit-low, digit-high: digits
+--   Written    wrote-text, copied-none, copied-more, copied-all, row-line, symbols-line, initial-line: words, children and lines, as they are written
+--   Below      rows-below: the rows of a state are found by looking up one symbol after the other
+--   Frames     children-there, states-there, row-there: what is read from the bytes is the table's. rule-found, rules-more, states-more: the lines of rules and states
+--   Text       form-text: the pieces are the form's text. children-in: the numbers of all child states are there
+--   Marks      met-old, met-full, met-new: meeting a state by the mark of its class. meet-append, meet-longer
+--   Meeting    met-none, met-then, rule-gathered, rules-met-more: meeting the child states of a state
+--   Visits     under-start, under-next, under-done: the visit step by step. numbered: the numbers that the marks tell
+--   Lengths    found-long, rules-longer, states-longer, form-long: how long the pieces are
+--   Short      form-short: the form's text is never longer than the table's. form-limited: the form is within the limits of a table
 pub mod Room
 pub mod Written
 pub mod Below

@@ -1,7 +1,7 @@
 -- Writing into a room in pieces, and hexadecimal digits in pieces.
 use mathlib.Core.Path.{_≡_, refl, sym, ap, subst, _∙_}
-use mathlib.Core.List.{List, [], _∷_, _++_, append-assoc}
-use Prim.Native.Nat.{ℕ, zero, suc, _+_, _-_, _*_, _<_, _≤_}
+use mathlib.Core.List.{List, [], _∷_, _++_}
+use Prim.Native.Nat.{ℕ, suc, _+_, _-_, _*_, _<_, _≤_}
 use native.Mathlib.Nat.{add-zero}
 use native.Mathlib.Numerals.{add-one}
 use native.Mathlib.Omega.{arith}
@@ -49,12 +49,6 @@ wrote-filled {R} {ws} {S} {n} w h = w .bytes ∙ sets-eq ws R 0 (omega arith) �
   where
     place : 0 + length ws ≡ length ws
     place = omega arith
-
--- Two digits a byte.
-pub length-hex : (bs : List ℕ) → length (hexOf bs) ≡ 2 * length bs
-unfolding hexOf
-length-hex [] = omega arith
-length-hex (b ∷ bs) = omega (arith, length-hex bs)
 
 -- The digits of two lists, one behind the other.
 pub hex-append : (us vs : List ℕ) → hexOf (us ++ vs) ≡ hexOf us ++ hexOf vs

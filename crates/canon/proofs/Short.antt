@@ -1,14 +1,14 @@
 -- The form's text is never longer than the table's, and the form is within the limits of a table.
 use mathlib.Core.Path.{_≡_, refl, sym, ap, _∙_}
-use mathlib.Core.List.{List, [], _∷_, _++_, map}
-use Prim.Native.Nat.{ℕ, zero, _+_, _*_, _<_, _≤_}
+use mathlib.Core.List.{List, [], _∷_, _++_}
+use Prim.Native.Nat.{ℕ, zero, _+_, _*_, _≤_}
 use native.Mathlib.Omega.{arith}
 use lib.ListN.{length, getD, length-append}
-use Rattle.machine.specs.Machine.{Child, Row, Table, Each, Every, WellMade}
+use Rattle.machine.specs.Machine.{Child, Row, Table, Each, WellMade}
 use Rattle.machine.specs.Form.{Test, Decides, order, rowsOf, renumber, formOf, IsForm}
 use Rattle.normal.specs.Listed.{numberOf, numberedRest}
 use Rattle.normal.specs.Shrunk.{total, ByNumber}
-use Rattle.normal.proofs.Lists.{All, all-map}
+use Rattle.normal.proofs.Lists.{all-map}
 use Rattle.normal.proofs.Rows.{rowsOf-all}
 use Rattle.normal.proofs.Order.{order-length}
 use Rattle.normal.proofs.Made.{renumbered-all, form-made}

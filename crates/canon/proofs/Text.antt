@@ -1,13 +1,12 @@
 -- The form's text, piece by piece as it is written.
 use mathlib.Core.Path.{_≡_, refl, sym, ap, ap₂, _∙_}
 use mathlib.Core.List.{List, [], _∷_, _++_, append-assoc, append-nil}
-use mathlib.Core.Option.{some}
-use Prim.Native.Nat.{ℕ, zero, suc, _+_, _*_, _<_, _≤_}
+use Prim.Native.Nat.{ℕ, zero, suc, _+_, _<_, _≤_}
 use native.Mathlib.Nat.{lt-of-lt-of-le}
 use native.Mathlib.Omega.{arith}
 use lib.ListN.{length, getD, take, length-take}
 use lib.Seq.{take-suc, take-all, getD-take}
-use Rattle.machine.specs.Machine.{Child, Rule, Row, Table, Each, find}
+use Rattle.machine.specs.Machine.{Child, Table, Each, find}
 use Rattle.machine.specs.Form.{Test, Decides, numberIn, order, renumbered, formOf}
 use Rattle.normal.specs.Listed.{kids, listed}
 use Rattle.normal.proofs.Lists.{All, all-map}
@@ -16,7 +15,7 @@ use Rattle.normal.proofs.Meaning.{listed-kids}
 use Rattle.text.specs.Lines.{hexOf, lineOf}
 use Rattle.text.specs.Writing.{textOf, initialFrame, symbolLines, rowLines, writeTable}
 use Rattle.layout.specs.Layout.{Opened}
-use Rattle.layout.specs.Leaves.{wordAt, headOf}
+use Rattle.layout.specs.Leaves.{headOf}
 use Rattle.layout.proofs.Heads.{arity, before-word, after-word}
 use Rattle.canon.specs.Bytes.{textAt, symbolsAt, initialAt}
 use Rattle.canon.specs.Visiting.{Numbered, ChildrenIn}
@@ -42,7 +41,7 @@ module _ {F I : List ℕ} {M : Table} (o : Opened F I M) where
 
   module _ (same : Test) (O N : List ℕ) (n : ℕ) (h : Numbered same M O N n) where
     -- The initial rule's frame.
-    initial-there : initialAt F n (headOf M .before) (headOf M .after) ≡ initialFrame (formOf same M)
+    initial-there : initialAt F n 0 (headOf M .before) (headOf M .after) ≡ initialFrame (formOf same M)
     unfolding initialAt initialFrame formOf
     initial-there =
         ap (λ (k : ℕ). 2 ∷ k ∷ textAt F (headOf M .before) ++ 0 ∷ textAt F (headOf M .after)) (h .count)
@@ -50,12 +49,12 @@ module _ {F I : List ℕ} {M : Table} (o : Opened F I M) where
 
     -- The pieces of the form's text.
     pub form-text : (s k b a : ℕ) → s ≡ length (M .arities) → k ≡ n → b ≡ headOf M .before → a ≡ headOf M .after
-        → symbolsAt F s ++ lineOf (initialAt F k b a) ++ rowLines (renumbered (numberIn same (order same M)) (M .rows) zero (take n O)) ++ hexOf (4 ∷ []) ++ 10 ∷ [] ≡ writeTable (formOf same M)
+        → symbolsAt F s ++ lineOf (initialAt F k 0 b a) ++ rowLines (renumbered (numberIn same (order same M)) (M .rows) zero (take n O)) ++ hexOf (4 ∷ []) ++ 10 ∷ [] ≡ writeTable (formOf same M)
     unfolding writeTable formOf lineOf
     form-text s k b a es ek eb ea =
-        append-assoc (symbolsAt F s ++ lineOf (initialAt F k b a) ++ rowLines (renumbered number (M .rows) zero (take n O))) (hexOf (4 ∷ [])) (10 ∷ [])
-        ∙ ap (λ (l : List ℕ). l ++ lineOf (initialAt F k b a) ++ rowLines (renumbered number (M .rows) zero (take n O)) ++ lineOf (4 ∷ [])) (symbols-all s es)
-        ∙ (λ i. symbolLines (M .arities) ++ lineOf (initialAt F (ek i) (eb i) (ea i)) ++ rowLines (renumbered number (M .rows) zero (h .listed i)) ++ lineOf (4 ∷ []))
+        append-assoc (symbolsAt F s ++ lineOf (initialAt F k 0 b a) ++ rowLines (renumbered number (M .rows) zero (take n O))) (hexOf (4 ∷ [])) (10 ∷ [])
+        ∙ ap (λ (l : List ℕ). l ++ lineOf (initialAt F k 0 b a) ++ rowLines (renumbered number (M .rows) zero (take n O)) ++ lineOf (4 ∷ [])) (symbols-all s es)
+        ∙ (λ i. symbolLines (M .arities) ++ lineOf (initialAt F (ek i) 0 (eb i) (ea i)) ++ rowLines (renumbered number (M .rows) zero (h .listed i)) ++ lineOf (4 ∷ []))
         ∙ ap (λ (l : List ℕ). symbolLines (M .arities) ++ lineOf l ++ rowLines (renumbered number (M .rows) zero (order same M)) ++ lineOf (4 ∷ [])) initial-there
       where
         number : ℕ → ℕ

@@ -1,19 +1,18 @@
 -- The visit of an opened table's states, step by step.
 use mathlib.Core.Path.{_≡_, refl, sym, ap, subst, _∙_}
-use mathlib.Core.List.{List, [], _∷_, _++_}
+use mathlib.Core.List.{List, [], _∷_}
 use Prim.Native.Nat.{ℕ, zero, suc, _+_, _-_, _<_, _≤_}
-use native.Mathlib.Decide.{decLt}
+use native.Mathlib.Decide.{decLt, ℕ-discrete}
 use native.Mathlib.Numerals.{add-one}
-use native.Mathlib.Nat.{le-trans, le-refl}
+use native.Mathlib.Nat.{le-refl}
 use native.Mathlib.Omega.{arith}
-use lib.ListN.{length, getD, set, take, replicate}
+use lib.ListN.{length, getD, set, replicate}
 use lib.Seq.{getD-take, getD-set-same, getD-set-other}
-use native.Mathlib.Decide.{ℕ-discrete}
-use Rattle.machine.specs.Machine.{Row, Table, WellMade, find}
-use Rattle.machine.specs.Form.{Test, Decides, numberIn, rowsOf, childStates, meet, visit, order}
+use Rattle.machine.specs.Machine.{Row, Table, find}
+use Rattle.machine.specs.Form.{Test, Decides, rowsOf, childStates, meet, visit, order}
 use Rattle.normal.proofs.Order.{visit-next, visit-done, order-enough, order-length}
 use Rattle.layout.specs.Layout.{Opened}
-use Rattle.canon.specs.Visiting.{byRep, mark, Listing, Met, rowsBelow, Numbered}
+use Rattle.canon.specs.Visiting.{byRep, Listing, Met, rowsBelow, Numbered}
 use Rattle.canon.proofs.Below.{rows-below}
 use Rattle.canon.proofs.Marks.{mark-known, mark-fresh, meet-longer, meet-one-new}
 

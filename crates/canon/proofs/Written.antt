@@ -1,5 +1,5 @@
 -- What the writers have written: words, children, lines, piece by piece.
-use mathlib.Core.Path.{_≡_, refl, sym, ap, subst, _∙_}
+use mathlib.Core.Path.{_≡_, refl, sym, ap, _∙_}
 use mathlib.Core.List.{List, [], _∷_, _++_, append-assoc, append-nil}
 use Prim.Native.Nat.{ℕ, zero, suc, _+_, _-_, _*_, _<_, _≤_}
 use native.Mathlib.Numerals.{add-one, sub-one}
@@ -84,7 +84,8 @@ symbols-line F f =
     x = getD F (2 * f + 1) 0
 
 -- The pieces of the initial rule's line.
-pub initial-line : (F : List ℕ) (n b a : ℕ)
-    → hexOf (2 ∷ []) ++ hexOf (n ∷ []) ++ hexOf (textAt F b) ++ hexOf (0 ∷ []) ++ hexOf (textAt F a) ++ 10 ∷ [] ≡ lineOf (initialAt F n b a)
+pub initial-line : (F : List ℕ) (n q b a : ℕ)
+    → hexOf (2 ∷ []) ++ hexOf (n ∷ []) ++ hexOf (textAt F b) ++ hexOf (q ∷ []) ++ hexOf (textAt F a) ++ 10 ∷ [] ≡ lineOf (initialAt F n q b a)
 unfolding hexOf lineOf initialAt
-initial-line F n b a = rw (hex-append (wordAt F b) (0 ∷ textAt F a)) (ap (λ (l : List ℕ). l ++ 10 ∷ []) (append-assoc (hexOf (2 ∷ n ∷ textAt F b)) (hexOf (0 ∷ [])) (hexOf (textAt F a))))
+initial-line F n q b a =
+    rw (hex-append (wordAt F b) (q ∷ textAt F a)) (ap (λ (l : List ℕ). l ++ 10 ∷ []) (append-assoc (hexOf (2 ∷ n ∷ textAt F b)) (hexOf (q ∷ [])) (hexOf (textAt F a))))

@@ -15,10 +15,15 @@ unfoldable pub childrenAt : List ℕ → List ℕ → ℕ → ℕ → List ℕ
 childrenAt F N zero p = []
 childrenAt F N (suc n) p = getD N (getD F p 0) 0 ∷ textAt F (p + 1) ++ childrenAt F N n (behindAt F (p + 1))
 
--- The states of n children that stand from p on.
+-- Where child j of the children that stand from p on stands.
+unfoldable pub placeAt : List ℕ → ℕ → ℕ → ℕ
+placeAt F zero p = p
+placeAt F (suc j) p = placeAt F j (behindAt F (p + 1))
+
+-- The states of the first n children that stand from p on, from left to right.
 unfoldable pub statesAt : List ℕ → ℕ → ℕ → List ℕ
 statesAt F zero p = []
-statesAt F (suc n) p = getD F p 0 ∷ statesAt F n (behindAt F (p + 1))
+statesAt F (suc n) p = statesAt F n p ++ getD F (placeAt F n p) 0 ∷ []
 
 -- The frame of number i and symbol f, of the rule with n children whose bytes stand at p.
 unfoldable pub rowAt : List ℕ → List ℕ → ℕ → ℕ → ℕ → ℕ → List ℕ
@@ -29,6 +34,6 @@ unfoldable pub symbolsAt : List ℕ → ℕ → List ℕ
 symbolsAt F zero = []
 symbolsAt F (suc n) = symbolsAt F n ++ lineOf (1 ∷ getD F (2 * n + 1) 0 ∷ [])
 
--- The frame of the initial rule with n states and the initial state 0, of the words at b and at a.
-unfoldable pub initialAt : List ℕ → ℕ → ℕ → ℕ → List ℕ
-initialAt F n b a = 2 ∷ n ∷ textAt F b ++ 0 ∷ textAt F a
+-- The frame of the initial rule with n states and the initial state q, of the words at b and at a.
+unfoldable pub initialAt : List ℕ → ℕ → ℕ → ℕ → ℕ → List ℕ
+initialAt F n q b a = 2 ∷ n ∷ textAt F b ++ q ∷ textAt F a

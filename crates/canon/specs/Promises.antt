@@ -1,6 +1,6 @@
 -- What the functions promise of every table that the lent bytes mean. Definitions only.
 use mathlib.Core.Path.{_≡_}
-use mathlib.Core.List.{List, [], _∷_, _++_, map}
+use mathlib.Core.List.{List, _++_, map}
 use Prim.Native.Nat.{ℕ, zero, _<_, _≤_}
 use lib.ListN.{length, getD, take, drop}
 use Rattle.machine.specs.Machine.{Table, find}

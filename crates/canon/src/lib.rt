@@ -4,7 +4,6 @@ ghost use mathlib.Core.Path.{_≡_};
 ghost use Prim.Native.Nat.{_≤_};
 ghost use lib.ListN.{length};
 ghost use Rattle.canon.specs.Promises.{FormWritten, StatesNumbered, FormLong};
-use crate::digits::narrow;
 use crate::digits::put;
 use crate::digits::put_byte;
 use crate::lines::put_initial;
@@ -72,7 +71,7 @@ pub fn write(
     let symbols = most(head.symbols);
     let states = most(n);
     let first = put_symbols(frames, symbols, room, 0);
-    let initial = put_initial(frames, head.before, head.after, narrow(states), room, first);
+    let initial = put_initial(frames, head.before, head.after, states, 0, room, first);
     let rules = put_states(
         frames,
         index,

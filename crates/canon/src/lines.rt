@@ -66,34 +66,35 @@ pub fn put_symbols(frames: &[u8], n: usize, room: &mut [u8], at: usize) -> usize
     requires { ⌜ (n ≤ 64) × (at + 1000 < 1000000000) ⌝ }
     ensures { λ r. ⌜ Wrote (now (room .entry)) at (symbolsAt (now (frames .entry)) n) (now (room .exit)) r × (r ≤ at + 5 * n) ⌝ }
 {
-    let mut f = 0;
+    let mut k = 0;
     let mut end = at;
-    while f < n {
+    while k < n {
         end = put_byte(room, end, 1);
-        end = put_byte(room, end, byte(frames, 2 * f + 1));
+        end = put_byte(room, end, byte(frames, 2 * k + 1));
         end = put(room, end, 10);
-        f += 1;
+        k += 1;
     }
     end
 }
 
-// Writes the line of the initial rule: so many states, the word at `before`, state 0, the word at `after`.
+// Writes the line of the initial rule: so many states, the word at `before`, the initial state, the word at `after`.
 pub fn put_initial(
     frames: &[u8],
     before: usize,
     after: usize,
-    states: u8,
+    states: usize,
+    start: usize,
     room: &mut [u8],
     at: usize,
 ) -> usize
-    requires { ⌜ at + 2000 < 1000000000 ⌝ }
-    ensures { λ r. ⌜ Wrote (now (room .entry)) at (lineOf (initialAt (now (frames .entry)) states before after)) (now (room .exit)) r × (r ≤ at + 1100) ⌝ }
+    requires { ⌜ (states < 256) × (start < 256) × (at + 2000 < 1000000000) ⌝ }
+    ensures { λ r. ⌜ Wrote (now (room .entry)) at (lineOf (initialAt (now (frames .entry)) states start before after)) (now (room .exit)) r × (r ≤ at + 1100) ⌝ }
 {
     let kind = put_byte(room, at, 2);
-    let count = put_byte(room, kind, states);
+    let count = put_byte(room, kind, narrow(states));
     let first = put_text(frames, before, room, count);
-    let start = put_byte(room, first, 0);
-    let last = put_text(frames, after, room, start);
+    let state = put_byte(room, first, narrow(start));
+    let last = put_text(frames, after, room, state);
     put(room, last, 10)
 }
 

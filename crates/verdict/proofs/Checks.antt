@@ -1,18 +1,17 @@
 -- The checks by their numbers: what the tests on marks and summaries tell, and the search for the least place.
-use mathlib.Core.Path.{_≡_, refl, sym, ap, _∙_, subst}
+use mathlib.Core.Path.{_≡_, sym, ap, _∙_}
 use mathlib.Core.Bool.{Bool, true, false, not, _&&_}
-use mathlib.Core.List.{List, [], _∷_}
+use mathlib.Core.List.{List}
 use mathlib.Core.Option.{Option, none, some}
-use Prim.Native.Nat.{ℕ, zero, suc, _+_, _-_, _≤_, _<_}
+use Prim.Native.Nat.{ℕ, suc, _+_, _-_, _≤_, _<_}
 use native.Mathlib.Decide.{ℕ-discrete, decLt}
 use native.Mathlib.Numerals.{add-one}
 use native.Mathlib.Omega.{arith}
 use borrow.Author.Tests.{eq-eqb, ne-eqb, le-leb, lt-leb}
 use lib.Dec.{eqb, leb}
-use lib.ListN.{length, getD, getElem?}
-use Rattle.words.specs.Word.{Word}
-use Rattle.machine.specs.Machine.{Table, Row}
-use Rattle.ends.specs.Ends.{Ends, lives, clean, stuck, free}
+use lib.ListN.{getD, getElem?}
+use Rattle.machine.specs.Machine.{Table}
+use Rattle.ends.specs.Ends.{lives, clean, stuck, free}
 use Rattle.ends.specs.Companion.{on, least, freeRow}
 use Rattle.layout.specs.Leaves.{wordAt}
 use Rattle.verdict.specs.Codes.{decode, K, flags}

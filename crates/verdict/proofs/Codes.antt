@@ -1,16 +1,11 @@
 -- Summaries as numbers: what the tests on a number tell of its summary.
 use mathlib.Core.Path.{_≡_, refl, sym, ap, _∙_, subst}
 use mathlib.Core.Bool.{Bool, true, false, _&&_, _||_}
-use mathlib.Core.List.{List, [], _∷_, map}
-use mathlib.Core.Logic.{_⊎_, inl, inr, ⊎-elim}
-use mathlib.Core.Option.{Option, none, some}
 use Prim.Native.Nat.{ℕ, zero, suc, _+_, _%_, _≤_, _<_}
 use native.Mathlib.Decide.{decLt}
 use native.Mathlib.Omega.{arith}
 use borrow.Author.Tests.{lt-ltb, le-ltb, eq-eqb, ne-eqb}
-use lib.Dec.{eqb, ltb}
-use Rattle.words.specs.Word.{Word}
-use Rattle.ends.specs.Ends.{Letters, nothing, one, several, Ends, unknown, blank, alone, both, join, through, lettered, lives, before, rankOf, rank, various, clean, only, stuck}
+use Rattle.ends.specs.Ends.{Letters, nothing, one, several, Ends, unknown, both, join, through, lettered, lives, before}
 use Rattle.verdict.specs.Codes.{lettersOf, decode}
 
 -- ---- letters

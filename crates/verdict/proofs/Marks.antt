@@ -1,10 +1,9 @@
--- Marks by steps over the rows: one state, the children of a row, all rows, all rows until no state more is marked.
+-- Marks: one state, the children of a row, all rows in turn.
 use mathlib.Core.Path.{_≡_, refl, sym, ap, _∙_, subst}
 use mathlib.Core.Bool.{Bool, true, false}
-use mathlib.Core.List.{List, [], _∷_, map}
+use mathlib.Core.List.{List, [], _∷_}
 use Prim.Native.Nat.{ℕ, zero, suc, _+_, _-_, _≤_, _<_}
 use native.Mathlib.Omega.{arith}
-use native.Mathlib.Decide.{decLt}
 use borrow.Author.Tests.{eq-eqb, ne-eqb}
 use lib.Dec.{eqb}
 use lib.ListN.{length, getD, set, length-map, length-set, List·getD-map}
@@ -14,8 +13,8 @@ use Rattle.ends.specs.Companion.{on, marked, markAll, follow, spread}
 use Rattle.ends.proofs.Marks.{marked-le, spread-raised}
 use Rattle.verdict.specs.Codes.{flags}
 use Rattle.verdict.specs.Reading.{pastAt, childrenAt, rowAt, rowEnd, rowsAt}
-use Rattle.verdict.specs.Steps.{times, Marked, Spread}
-use Rattle.verdict.proofs.Walks.{childAt, children-more, children-none}
+use Rattle.verdict.specs.Steps.{Marked}
+use Rattle.verdict.proofs.Walks.{children-more, children-none}
 use Rattle.verdict.proofs.Steps.{map-set, rows-more, rows-none}
 
 -- ---- one state
@@ -23,9 +22,9 @@ use Rattle.verdict.proofs.Steps.{map-set, rows-more, rows-none}
 pub flag-at : (m : List ℕ) (q : ℕ) → on (flags m) q ≡ eqb (getD m q 0) 1
 flag-at m q = List·getD-map (λ n. eqb n 1) m q 0
 
--- There are at most as many marks as places.
-pub marked-most : (m : List ℕ) → marked (flags m) ≤ length m
-marked-most m = omega (arith, marked-le (flags m), length-map m (λ n. eqb n 1))
+-- At most 64 of 64 states are marked.
+pub marked-most : (m : List ℕ) → length m ≡ 64 → marked (flags m) ≤ 64
+marked-most m l = omega (arith, marked-le (flags m), length-map m (λ n. eqb n 1))
 
 -- A state that was not marked is one more.
 mark-counts : (ms : List Bool) (q : ℕ) → q < length ms → on ms q ≡ false → marked (set ms q true) ≡ marked ms + 1
@@ -57,35 +56,6 @@ module _ (m : List ℕ) (q : ℕ) where
         meets = map-set (λ n. eqb n 1) m q 1;
         counts = ap marked (map-set (λ n. eqb n 1) m q 1) ∙ mark-counts (flags m) q (rw (length-map m (λ n. eqb n 1)) l) (flag-at m q ∙ ne-eqb (getD m q 0) 1 n);
       }
-
--- ---- steps in turn
--- On the way: n has k marks more, and what remains to be done makes of it what is wanted.
-pub record Going (m n : List ℕ) (k p : ℕ) (rest : List Bool → List Bool) (wanted : List Bool) : Type 0 where
-  pub near : p ≤ 32768
-  pub long : length n ≡ length m
-  pub remains : rest (flags n) ≡ wanted
-  pub counts : marked (flags n) ≡ marked (flags m) + k
-
--- In the beginning.
-pub going-none : (m : List ℕ) (p : ℕ) (rest : List Bool → List Bool) → p ≤ 32768 → Going m m 0 p rest (rest (flags m))
-going-none m p rest h = record { near = h; long = refl; remains = refl; counts = omega arith }
-
--- One step more.
-pub going-more : {m n o : List ℕ} {k j p : ℕ} {rest : List Bool → List Bool} {wanted : List Bool} → Going m n k p rest wanted → (step : List Bool → List Bool) → Marked n o j (step (flags n)) → (next : List Bool → List Bool) → ((ms : List Bool) → rest ms ≡ next (step ms)) → (q : ℕ) → q ≤ 32768 → Going m o (k + j) q next wanted
-going-more {n = n} g step h next e q near =
-    record { near = near; long = h .long ∙ g .long; remains = ap next (h .meets) ∙ sym (e (flags n)) ∙ g .remains; counts = omega (arith, g .counts, h .counts) }
-
--- In the end.
-pub going-done : {m n : List ℕ} {k p : ℕ} {rest : List Bool → List Bool} {wanted : List Bool} → Going m n k p rest wanted → ((ms : List Bool) → rest ms ≡ ms) → Marked m n k wanted
-going-done {n = n} g e = record { long = g .long; meets = sym (e (flags n)) ∙ g .remains; counts = g .counts }
-
--- With one step more there are at most as many marks more as places.
-pub going-most : {m n o : List ℕ} {k j p : ℕ} {rest : List Bool → List Bool} {wanted next : List Bool} → Going m n k p rest wanted → Marked n o j next → k + j ≤ length m
-going-most {o = o} g h = omega (arith, g .counts, g .long, h .counts, h .long, marked-most o)
-
--- What marks a state leaves fewer.
-pub marked-less : {m n : List ℕ} {k : ℕ} {wanted : List Bool} → Marked m n k wanted → length m ≡ 64 → (k ≡ 0 → ⊥) → 64 - marked (flags n) < 64 - marked (flags m)
-marked-less {n = n} h l ne = omega (arith, h .counts, h .long, marked-most n)
 
 -- ---- the children of a row
 module _ (F : List ℕ) where
@@ -127,27 +97,7 @@ module _ (row : Row) (m : List ℕ) where
   follow-on {n} {k} e h =
       subst (λ x. Marked m n k x) (sym (ap (λ t. elim t as (λ x. List Bool) [ true ↦ markAll (row .rule .rest) (flags m) | false ↦ flags m ]) (flag-at m (row .state) ∙ eq-eqb (getD m (row .state) 0) 1 e))) h
 
--- ---- all rows until no state more is marked
-module _ (rows : List Row) (m : List ℕ) where
-  -- The marks are what going over the rows some times makes of those in the beginning.
-  pub record After (n : List ℕ) : Type 0 where
-    pub long : length n ≡ length m
-    pub rounds : ℕ
-    pub meets : flags n ≡ times rounds (spread rows) (flags m)
-
-  -- Not once.
-  pub after-none : After m
-  unfolding times
-  after-none = record { long = refl; rounds = 0; meets = refl }
-
-  -- Once more.
-  pub after-more : {n o : List ℕ} {k : ℕ} → After n → Marked n o k (spread rows (flags n)) → After o
-  unfolding times
-  after-more a h = record { long = h .long ∙ a .long; rounds = suc (a .rounds); meets = h .meets ∙ ap (spread rows) (a .meets) }
-
-  -- Once more, with no state more.
-  pub after-last : {n o : List ℕ} {k : ℕ} → After n → Marked n o k (spread rows (flags n)) → k ≡ 0 → Spread rows m o
-  after-last {n} {o} {k} a h e =
-      let same : flags o ≡ flags n = h .meets ∙ spread-raised rows (flags n) .rests (omega (arith, ap marked (h .meets), h .counts)) in
-      let b = after-more a h in
-      record { long = b .long; rounds = b .rounds; meets = b .meets; rests = ap (λ ms. marked (spread rows ms)) same ∙ sym (ap marked (h .meets)) }
+-- ---- no state more
+-- Going over the rows changes nothing if it marks no state more.
+pub spread-still : (rows : List Row) (ms : List Bool) → marked (spread rows ms) ≡ marked ms → spread rows ms ≡ ms
+spread-still rows ms e = spread-raised rows ms .rests e

@@ -1,11 +1,11 @@
 -- The verdict of an opened table, from what the code has in the end.
-use mathlib.Core.Path.{_≡_, refl, sym, ap, _∙_, subst}
+use mathlib.Core.Path.{_≡_, sym, ap, _∙_, subst}
 use mathlib.Core.Bool.{true}
 use mathlib.Core.List.{List}
-use Prim.Native.Nat.{ℕ, zero, suc, _<_}
+use Prim.Native.Nat.{ℕ}
 use native.Mathlib.Decide.{decLt}
 use native.Mathlib.Omega.{arith}
-use lib.ListN.{length, getD, set, replicate, length-replicate, getD-replicate, List·getD-eq-default}
+use lib.ListN.{length, set, replicate, length-replicate, getD-replicate, List·getD-eq-default}
 use Rattle.words.specs.Word.{Word}
 use Rattle.machine.specs.Machine.{Row, Table}
 use Rattle.machine.specs.Verdict.{Verdict, Judged}

@@ -1,17 +1,17 @@
 -- The rows of an opened table are read as they are.
 use mathlib.Core.Path.{_≡_, refl, sym, ap, _∙_, subst}
 use mathlib.Core.List.{List, [], _∷_, _++_, append-assoc}
-use Prim.Native.Nat.{ℕ, zero, suc, _+_, _*_, _≤_, _<_}
+use Prim.Native.Nat.{ℕ, _+_, _*_, _<_}
 use native.Mathlib.Omega.{arith}
 use lib.ListN.{length, getD, drop, length-drop, length-append}
-use Rattle.machine.specs.Machine.{Child, Rule, Row, Table, RowFits, Every}
+use Rattle.machine.specs.Machine.{Child, Row, Table, RowFits, Every}
 use Rattle.text.specs.Writing.{childrenText, rowFrame}
 use Rattle.layout.specs.Layout.{rowFrames, ruleText, Opened}
-use Rattle.layout.specs.Leaves.{wordAt, behindAt, RuleAt, headOf}
+use Rattle.layout.specs.Leaves.{behindAt, RuleAt, headOf}
 use Rattle.layout.proofs.Stretches.{child-state, child-word, child-behind, first-word, first-behind, further}
 use Rattle.layout.proofs.Rows.{row-frame, row-state, row-symbol}
-use Rattle.layout.proofs.Heads.{arity, rows-there, after-word}
-use Rattle.verdict.specs.Reading.{near, pastAt, childrenAt, childrenEnd, kidsAt, rowAt, rowEnd, rowsAt, tableAt}
+use Rattle.layout.proofs.Heads.{arity, rows-there}
+use Rattle.verdict.specs.Reading.{near, pastAt, childrenAt, childrenEnd, kidsAt, rowAt, rowEnd, rowsAt}
 use Rattle.verdict.proofs.Walks.{near-same}
 
 module _ (F : List ℕ) (short : length F < 32768) where

@@ -1,18 +1,17 @@
 -- What the sweeps leave: summaries that are witnessed and covering, and marks at the states that are reached.
 use mathlib.Core.Path.{_≡_, refl, sym, ap, _∙_, subst}
-use mathlib.Core.Bool.{Bool, true, false, false≢true}
+use mathlib.Core.Bool.{true, false, false≢true}
 use mathlib.Core.List.{List, [], _∷_}
 use mathlib.Core.Option.{some}
 use Prim.Native.Nat.{ℕ, zero, suc, _≤_, _<_}
 use native.Mathlib.Omega.{arith}
-use borrow.Author.Tests.{ne-eqb}
 use lib.Dec.{eqb}
 use lib.ListN.{length, getD, set, getElem?, length-map}
 use lib.Seq.{getD-set-same}
 use Rattle.machine.specs.Machine.{Child, Row, Table, RowFits, WellMade, Each, find}
 use Rattle.machine.specs.Earliest.{Reached, initial}
 use Rattle.machine.proofs.Find.{every-at, find-row}
-use Rattle.ends.specs.Ends.{Side, Ends, unknown, at, ranks}
+use Rattle.ends.specs.Ends.{Side, at}
 use Rattle.ends.specs.Meaning.{Witnessed, Covering, Closed}
 use Rattle.ends.specs.Companion.{on, sweep, spread}
 use Rattle.ends.proofs.Rules.{unknown-witnessed, closed-covering}

@@ -1,18 +1,18 @@
--- Steps over the rows: one row, all rows, all rows until nothing is added.
+-- Sweeps over the rows: what one row adds, and all rows in turn.
 use mathlib.Core.Path.{_≡_, refl, sym, ap, _∙_, subst}
 use mathlib.Core.List.{List, [], _∷_, map}
-use Prim.Native.Nat.{ℕ, zero, suc, _+_, _*_, _-_, _≤_, _<_}
+use Prim.Native.Nat.{ℕ, zero, suc, _+_, _-_, _≤_, _<_}
 use native.Mathlib.Omega.{arith}
 use lib.ListN.{length, getD, set, length-map, length-set, List·getD-map}
 use lib.Seq.{set-out}
 use Rattle.machine.specs.Machine.{Row}
-use Rattle.ends.specs.Ends.{Side, Ends, unknown, join, value, rank, at, ranks}
+use Rattle.ends.specs.Ends.{Side, Ends, join, value, rank, at, ranks}
 use Rattle.ends.specs.Companion.{visit, sweep}
 use Rattle.ends.proofs.Ranks.{join-rank, ranks-le, ranks-set}
 use Rattle.ends.proofs.Known.{sweep-rests}
 use Rattle.verdict.specs.Codes.{decode, K, summaries}
 use Rattle.verdict.specs.Reading.{rowAt, rowEnd, rowsAt}
-use Rattle.verdict.specs.Steps.{Risen, times, Swept}
+use Rattle.verdict.specs.Steps.{Risen}
 use Rattle.verdict.proofs.Codes.{nothing-known}
 use Rattle.verdict.proofs.Walks.{one-less}
 
@@ -30,9 +30,9 @@ summary-at xs q = ap (λ d. getD (map decode xs) q d) (sym nothing-known) ∙ Li
 pub summary-all : (xs : List ℕ) → at (summaries xs) ≡ K xs
 summary-all xs = λ i q. summary-at xs q i
 
--- How much can be known of all states.
-pub ranks-most : (xs : List ℕ) → ranks (summaries xs) ≤ 3 * length xs
-ranks-most xs = omega (arith, ranks-le (summaries xs), length-map xs decode)
+-- How much can be known of 64 states.
+pub ranks-most : (xs : List ℕ) → length xs ≡ 64 → ranks (summaries xs) ≤ 192
+ranks-most xs l = omega (arith, ranks-le (summaries xs), length-map xs decode)
 
 -- ---- one row
 module _ (side : Side) (row : Row) (xs : List ℕ) where
@@ -89,69 +89,11 @@ module _ (F : List ℕ) (side : Side) where
   unfolding sweep
   sweep-none p n e vs = ap (λ rows. sweep side rows vs) (rows-none F p n e)
 
-  -- On the way through the rows: ys have risen by k, and the n rows from p on are still to be added.
-  pub record Going (xs ys : List ℕ) (k p n : ℕ) (wanted : List Ends) : Type 0 where
-    pub near : p ≤ 32768
-    pub long : length ys ≡ length xs
-    pub remains : sweep side (rowsAt F p n) (summaries ys) ≡ wanted
-    pub counts : ranks (summaries ys) ≡ ranks (summaries xs) + k
-
-  -- In the beginning.
-  pub going-none : (xs : List ℕ) (p n : ℕ) → p ≤ 32768 → Going xs xs 0 p n (sweep side (rowsAt F p n) (summaries xs))
-  going-none xs p n h = record { near = h; long = refl; remains = refl; counts = omega arith }
-
-  -- One row more.
-  pub going-more : {xs ys zs : List ℕ} {k j p n : ℕ} {wanted : List Ends} → Going xs ys k p n wanted → 0 < n → Risen ys zs j (visit side (rowAt F p) (summaries ys)) → (m : ℕ) → m ≡ rowEnd F p → m ≤ 32768 → Going xs zs (k + j) m (n - 1) wanted
-  going-more {xs} {ys} {zs} {k} {j} {p} {n} g l h m e near =
-      record {
-        near = near;
-        long = h .long ∙ g .long;
-        remains = ap (λ x. sweep side (rowsAt F x (n - 1)) (summaries zs)) e ∙ ap (sweep side (rowsAt F (rowEnd F p) (n - 1))) (h .meets) ∙ sym (sweep-more p n l (summaries ys)) ∙ g .remains;
-        counts = omega (arith, g .counts, h .counts);
-      }
-
-  -- In the end.
-  pub going-done : {xs ys : List ℕ} {k p n : ℕ} {wanted : List Ends} → Going xs ys k p n wanted → n ≡ 0 → Risen xs ys k wanted
-  going-done {xs} {ys} {k} {p} {n} g e = record { long = g .long; meets = sym (sweep-none p n e (summaries ys)) ∙ g .remains; counts = g .counts }
-
-  -- With one row more it has risen by at most what can be known.
-  pub going-most : {xs ys zs : List ℕ} {k j p n : ℕ} {wanted next : List Ends} → Going xs ys k p n wanted → Risen ys zs j next → k + j ≤ 3 * length xs
-  going-most {zs = zs} g h = omega (arith, g .counts, g .long, h .counts, h .long, ranks-most zs)
-
--- What rises leaves less to be known.
-pub risen-less : {xs ys : List ℕ} {k : ℕ} {wanted : List Ends} → Risen xs ys k wanted → length xs ≡ 64 → (k ≡ 0 → ⊥) → 192 - ranks (summaries ys) < 192 - ranks (summaries xs)
-risen-less {ys = ys} h l n = omega (arith, h .counts, h .long, ranks-most ys)
-
 -- ---- all rows until nothing is added
 -- A sweep after which no more is known changes nothing.
-sweep-still : (side : Side) (rows : List Row) (vs : List Ends) → ranks (sweep side rows vs) ≡ ranks vs → sweep side rows vs ≡ vs
+pub sweep-still : (side : Side) (rows : List Row) (vs : List Ends) → ranks (sweep side rows vs) ≡ ranks vs → sweep side rows vs ≡ vs
 unfolding sweep
 sweep-still side [] vs e = refl
 sweep-still side (row ∷ rows) vs e =
     let s : visit side row vs ≡ vs = sweep-rests side (row ∷ rows) vs e zero row refl in
     ap (sweep side rows) s ∙ sweep-still side rows vs (subst (λ x. ranks (sweep side rows x) ≡ ranks vs) s e)
-
-module _ (side : Side) (rows : List Row) (xs : List ℕ) where
-  -- The summaries are what n sweeps make of those in the beginning.
-  pub record After (ys : List ℕ) : Type 0 where
-    pub long : length ys ≡ length xs
-    pub rounds : ℕ
-    pub meets : summaries ys ≡ times rounds (sweep side rows) (summaries xs)
-
-  -- No sweep.
-  pub after-none : After xs
-  unfolding times
-  after-none = record { long = refl; rounds = 0; meets = refl }
-
-  -- One sweep more.
-  pub after-more : {ys zs : List ℕ} {k : ℕ} → After ys → Risen ys zs k (sweep side rows (summaries ys)) → After zs
-  unfolding times
-  after-more a h = record { long = h .long ∙ a .long; rounds = suc (a .rounds); meets = h .meets ∙ ap (sweep side rows) (a .meets) }
-
-  -- One sweep that adds nothing.
-  pub after-last : {ys zs : List ℕ} {k : ℕ} → After ys → Risen ys zs k (sweep side rows (summaries ys)) → k ≡ 0 → Swept side rows xs zs
-  after-last {ys} {zs} {k} a h e =
-      let r : ranks (sweep side rows (summaries ys)) ≡ ranks (summaries ys) = omega (arith, ap ranks (h .meets), h .counts) in
-      let same : summaries zs ≡ summaries ys = h .meets ∙ sweep-still side rows (summaries ys) r in
-      let b = after-more a h in
-      record { long = b .long; rounds = b .rounds; meets = b .meets; rests = ap (λ vs. ranks (sweep side rows vs)) same ∙ sym (ap ranks (h .meets)) }

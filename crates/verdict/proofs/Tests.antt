@@ -1,15 +1,14 @@
 -- Summaries as numbers: how much they tell, whether there is a common prefix, whether a word can be pushed.
 use mathlib.Core.Path.{_≡_, refl, sym, ap, _∙_, subst}
 use mathlib.Core.Bool.{Bool, true, false, _&&_, _||_}
-use mathlib.Core.List.{List, [], _∷_}
+use mathlib.Core.List.{[], _∷_}
 use Prim.Native.Nat.{ℕ, zero, suc, _+_, _-_, _%_, _≤_, _<_}
 use native.Mathlib.Decide.{decLt}
 use native.Mathlib.Omega.{arith}
 use borrow.Author.Tests.{eq-eqb, ne-eqb}
-use lib.Dec.{eqb}
 use lib.ListN.{length, getD}
 use Rattle.words.specs.Word.{Word}
-use Rattle.ends.specs.Ends.{Side, left, right, end, Letters, nothing, one, several, Ends, blank, alone, rankOf, rank, various, clean, only, stuck}
+use Rattle.ends.specs.Ends.{Side, left, right, end, Letters, one, Ends, blank, alone, rankOf, rank, various, clean, only, stuck}
 use Rattle.ends.proofs.Sides.{end-none, end-left, end-right}
 use Rattle.verdict.specs.Codes.{sideOf, lettersOf, decode}
 use Rattle.verdict.proofs.Codes.{Kind, none-of, one-of, more-of, kind, letter-one, letters-several, without-empty, has-empty, lacks-empty}

@@ -4,7 +4,7 @@ use mathlib.Core.List.{List, [], _∷_}
 use Prim.Native.Nat.{ℕ, zero, suc, _+_, _*_}
 use lib.Dec.{ltb}
 use lib.ListN.{getD}
-use Rattle.machine.specs.Machine.{Child, Rule, Row, Table}
+use Rattle.machine.specs.Machine.{Child, Row, Table}
 use Rattle.layout.specs.Leaves.{wordAt, behindAt}
 use Rattle.layout.specs.declared.Head.{Head}
 

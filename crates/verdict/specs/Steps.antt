@@ -1,4 +1,4 @@
--- What the steps of the judgement do to the summaries and to the marks. Definitions only.
+-- What steps do to the numbers that are kept for the states, and when they come to rest. Definitions only.
 use mathlib.Core.Path.{_≡_}
 use mathlib.Core.Bool.{Bool}
 use mathlib.Core.List.{List}
@@ -9,33 +9,36 @@ use Rattle.ends.specs.Ends.{Side, Ends, ranks}
 use Rattle.ends.specs.Companion.{sweep, marked, spread}
 use Rattle.verdict.specs.Codes.{summaries, flags}
 
--- The summaries xs become ys, which are those that were wanted, and k tells how much they rose.
-pub record Risen (xs ys : List ℕ) (k : ℕ) (wanted : List Ends) : Type 0 where
+-- The numbers xs become ys, in which is seen what was wanted, and k tells how much its size rose.
+pub record Stepped {A : Type 0} (see : List ℕ → A) (size : A → ℕ) (xs ys : List ℕ) (k : ℕ) (wanted : A) : Type 0 where
   pub long : length ys ≡ length xs
-  pub meets : summaries ys ≡ wanted
-  pub counts : ranks (summaries ys) ≡ ranks (summaries xs) + k
+  pub meets : see ys ≡ wanted
+  pub counts : size (see ys) ≡ size (see xs) + k
 
 -- A step is taken n times.
 unfoldable pub times : {A : Type 0} → ℕ → (A → A) → A → A
 times zero f a = a
 times (suc n) f a = f (times n f a)
 
--- The summaries ys are what sweeps over the rows make of V, and one more sweep adds nothing.
-pub record Swept (side : Side) (rows : List Row) (xs ys : List ℕ) : Type 0 where
+-- In the numbers ys is seen what a step that is taken some times makes of what is seen in xs, and one more adds nothing.
+pub record Rested {A : Type 0} (see : List ℕ → A) (size : A → ℕ) (step : A → A) (xs ys : List ℕ) : Type 0 where
   pub long : length ys ≡ length xs
   pub rounds : ℕ
-  pub meets : summaries ys ≡ times rounds (sweep side rows) (summaries xs)
-  pub rests : ranks (sweep side rows (summaries ys)) ≡ ranks (summaries ys)
+  pub meets : see ys ≡ times rounds step (see xs)
+  pub rests : size (step (see ys)) ≡ size (see ys)
 
--- The marks m become n, which are those that were wanted, and k tells how many more there are.
-pub record Marked (m n : List ℕ) (k : ℕ) (wanted : List Bool) : Type 0 where
-  pub long : length n ≡ length m
-  pub meets : flags n ≡ wanted
-  pub counts : marked (flags n) ≡ marked (flags m) + k
+-- The summaries become those that were wanted, and k tells how much more is known.
+abbrev pub Risen : List ℕ → List ℕ → ℕ → List Ends → Type 0
+Risen xs ys k wanted = Stepped summaries ranks xs ys k wanted
+
+-- The summaries ys are what sweeps over the rows make of xs, and one more adds nothing.
+abbrev pub Swept : Side → List Row → List ℕ → List ℕ → Type 0
+Swept side rows xs ys = Rested summaries ranks (sweep side rows) xs ys
+
+-- The marks become those that were wanted, and k tells how many more there are.
+abbrev pub Marked : List ℕ → List ℕ → ℕ → List Bool → Type 0
+Marked m n k wanted = Stepped flags marked m n k wanted
 
 -- The marks n are what going over the rows makes of m, and once more marks no state more.
-pub record Spread (rows : List Row) (m n : List ℕ) : Type 0 where
-  pub long : length n ≡ length m
-  pub rounds : ℕ
-  pub meets : flags n ≡ times rounds (spread rows) (flags m)
-  pub rests : marked (spread rows (flags n)) ≡ marked (flags n)
+abbrev pub Spread : List Row → List ℕ → List ℕ → Type 0
+Spread rows m n = Rested flags marked (spread rows) m n

@@ -1,7 +1,6 @@
 -- `length` meets its contract: the lengths of the pieces of the form's text.
-use mathlib.Core.Path.{_≡_, ap, _∙_, sym}
-use mathlib.Core.List.{List}
-use Prim.Native.Nat.{ℕ, _≤_}
+use mathlib.Core.Path.{_≡_, ap, _∙_}
+use Prim.Native.Nat.{ℕ}
 use native.Mathlib.Omega.{arith}
 use lib.ListN.{length, take}
 use Rattle.machine.specs.Form.{order, numberIn, renumbered}

@@ -1,5 +1,4 @@
 -- `number` meets its contract: the visit begins with no class known, and the numbers are read off the marks.
-use native.Mathlib.Omega.{arith}
 use Rattle.canon.proofs.Visits.{numbered, zeros}
 use borrow.Author.Needs.{needs}
 use Rattle.canon.proofs.number.Statement.{statement}

@@ -1,9 +1,8 @@
 -- `write` meets its contract: the pieces of the form's text in turn.
-use mathlib.Core.Path.{_≡_, ap, _∙_, sym}
-use mathlib.Core.List.{List}
-use Prim.Native.Nat.{ℕ, _≤_, _<_}
+use mathlib.Core.Path.{_≡_, ap, _∙_}
+use Prim.Native.Nat.{_≤_}
 use native.Mathlib.Omega.{arith}
-use lib.ListN.{length, getD}
+use lib.ListN.{length}
 use Rattle.machine.specs.Form.{order, numberIn}
 use Rattle.layout.specs.declared.Head.{Head}
 use Rattle.canon.proofs.Room.{wrote-then, wrote-as, wrote-filled}
@@ -23,9 +22,6 @@ most-requires-2 c κs = search needs
 put-symbols-requires : tie.Need-put-symbols-requires
 put-symbols-requires c κs = search needs
 
-narrow-requires : tie.Need-narrow-requires
-narrow-requires c κs = search needs
-
 put-initial-requires : tie.Need-put-initial-requires
 put-initial-requires c κs = search needs
 
@@ -43,17 +39,16 @@ same-length c = search needs
 
 returns : tie.Need-returns
 returns c =
-    let a = c .before .before .before .before .before .before .before .before .before .before .before .before .before .before .before .before .before .before .before .before .before .before .before .before .before .before .before .before .args in
+    let a = c .before .before .before .before .before .before .before .before .before .before .before .before .before .before .before .before .before .before .before .before .before .before .before .before .before .before .before .args in
     λ same M o e D h.
     let L = o .limited in
-    let s : c .before .before .before .before .before .before .before .before .before .before .before .before .before .before .before .before .before .before .before .before .before .before .most .result ≡ length (M .arities) = c .before .before .before .before .before .before .before .before .before .before .before .before .before .before .before .before .before .before .before .before .before .before .most .ensures .1 (omega (arith, ap (λ (x : Head). x .symbols) e, L .symbols)) ∙ ap (λ (x : Head). x .symbols) e in
+    let s : c .before .before .before .before .before .before .before .before .before .before .before .before .before .before .before .before .before .before .before .before .before .most .result ≡ length (M .arities) = c .before .before .before .before .before .before .before .before .before .before .before .before .before .before .before .before .before .before .before .before .before .most .ensures .1 (omega (arith, ap (λ (x : Head). x .symbols) e, L .symbols)) ∙ ap (λ (x : Head). x .symbols) e in
     let m : a .n ≤ 64 = omega (arith, h .count, order-length same M (L .made) D, L .states) in
-    let n : c .before .before .before .before .before .before .before .before .before .before .before .before .before .before .before .before .before .before .before .before .before .most2 .result ≡ a .n = c .before .before .before .before .before .before .before .before .before .before .before .before .before .before .before .before .before .before .before .before .before .most2 .ensures .1 m in
-    let k : c .before .before .before .before .before .before .before .before .before .before .before .before .before .before .before .before .narrow .result ≡ a .n = c .before .before .before .before .before .before .before .before .before .before .before .before .before .before .before .before .narrow .ensures (omega arith) ∙ n in
+    let n : c .before .before .before .before .before .before .before .before .before .before .before .before .before .before .before .before .before .before .before .before .most2 .result ≡ a .n = c .before .before .before .before .before .before .before .before .before .before .before .before .before .before .before .before .before .before .before .before .most2 .ensures .1 m in
     let w = states-as (a .order .now) (M .rows) (numberIn same (order same M)) n
     (c .before .before .before .before .before .before .before .before .before .before .put-states .ensures .1 M (numberIn same (order same M)) o s (omega (arith, order-there o same (a .order .now) (a .numbers .now) (a .n) h)) (λ j l. children-in o same (a .order .now) (a .numbers .now) (a .n) h D j (omega arith))) in
-    let t = wrote-as (form-text o same (a .order .now) (a .numbers .now) (a .n) h (c .before .before .before .before .before .before .before .before .before .before .before .before .before .before .before .before .before .before .before .before .before .before .most .result) (c .before .before .before .before .before .before .before .before .before .before .before .before .before .before .before .before .narrow .result) (a .head .before) (a .head .after) s k (ap (λ (x : Head). x .before) e) (ap (λ (x : Head). x .after) e))
-    (wrote-then (wrote-then (wrote-then (wrote-then (c .before .before .before .before .before .before .before .before .before .before .before .before .before .before .before .before .before .before .before .put-symbols .ensures .0) (c .before .before .before .before .before .before .before .before .before .before .before .before .before .before .put-initial .ensures .0)) w) (c .before .before .before .before .before .before .put-byte .ensures .0)) (c .before .before .put .ensures)) in
+    let t = wrote-as (form-text o same (a .order .now) (a .numbers .now) (a .n) h (c .before .before .before .before .before .before .before .before .before .before .before .before .before .before .before .before .before .before .before .before .before .most .result) (c .before .before .before .before .before .before .before .before .before .before .before .before .before .before .before .before .before .before .before .before .most2 .result) (a .head .before) (a .head .after) s n (ap (λ (x : Head). x .before) e) (ap (λ (x : Head). x .after) e))
+    (wrote-then (wrote-then (wrote-then (wrote-then (c .before .before .before .before .before .before .before .before .before .before .before .before .before .before .before .before .before .before .put-symbols .ensures .0) (c .before .before .before .before .before .before .before .before .before .before .before .before .before .before .put-initial .ensures .0)) w) (c .before .before .before .before .before .before .put-byte .ensures .0)) (c .before .before .put .ensures)) in
     (omega (arith, t .end), λ l. wrote-filled t l)
 
 pub write-spec : {M : Type 1} → statement M
@@ -63,7 +58,6 @@ write-spec =
     most-requires
     most-requires-2
     put-symbols-requires
-    narrow-requires
     put-initial-requires
     put-states-requires
     put-byte-requires

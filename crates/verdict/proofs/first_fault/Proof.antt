@@ -17,7 +17,9 @@ abbrev μ-loop : tie.MeasureT-loop
 μ-loop frames head marks left right number₀ number = 19 - number
 
 loop-holds : tie.Need-loop-holds Inv-loop μ-loop
-loop-holds c = (omega arith, omega arith, from-first (tableAt (c .before .before .before .before .args .frames .now) (c .before .before .before .before .args .head)) (c .before .before .before .before .args .marks .now) (c .before .before .before .before .args .left .now) (c .before .before .before .before .args .right .now))
+loop-holds c =
+    let a = c .before .before .before .before .args in
+    (omega arith, omega arith, from-first (tableAt (a .frames .now) (a .head)) (a .marks .now) (a .left .now) (a .right .now))
 
 place-of-fault-requires : tie.Need-place-of-fault-requires Inv-loop μ-loop
 place-of-fault-requires c κs = search needs
@@ -26,7 +28,10 @@ enum-known-found : tie.Need-enum-known-found Inv-loop μ-loop
 enum-known-found c = search needs
 
 returns : tie.Need-returns Inv-loop μ-loop
-returns c = judge-found (tableAt (c .before .before .before .before .before .before .before .before .before .before .args .frames .now) (c .before .before .before .before .before .before .before .before .before .before .args .head)) (c .before .before .before .before .before .before .before .before .before .before .args .marks .now) (c .before .before .before .before .before .before .before .before .before .before .args .left .now) (c .before .before .before .before .before .before .before .before .before .before .args .right .now) (c .before .before .before .before .before .loop .number) (c .before .before .before .before .loop-test .taken) (c .before .found .given .0 .0) (sym (ap placeOf (c .before .found .given .1)) ∙ c .before .before .before .place-of-fault .ensures) ∙ c .before .before .before .before .before .loop .inv .2
+returns c =
+    let a = c .before .before .before .before .before .before .before .before .before .before .args in
+    let l = c .before .before .before .before .before .loop in
+    judge-found (tableAt (a .frames .now) (a .head)) (a .marks .now) (a .left .now) (a .right .now) (l .number) (c .before .before .before .before .loop-test .taken) (c .before .found .given .0 .0) (sym (ap placeOf (c .before .found .given .1)) ∙ c .before .before .before .place-of-fault .ensures) ∙ l .inv .2
 
 enum-told : tie.Need-enum-told Inv-loop μ-loop
 enum-told c = search needs
@@ -38,10 +43,16 @@ loop-less : tie.Need-loop-less Inv-loop μ-loop
 loop-less c = search needs
 
 loop-again : tie.Need-loop-again Inv-loop μ-loop
-loop-again c = (omega arith, omega arith, judge-next (tableAt (c .before .before .before .before .before .before .before .before .before .args .frames .now) (c .before .before .before .before .before .before .before .before .before .args .head)) (c .before .before .before .before .before .before .before .before .before .args .marks .now) (c .before .before .before .before .before .before .before .before .before .args .left .now) (c .before .before .before .before .before .before .before .before .before .args .right .now) (c .before .before .before .before .loop .number) (c .before .before .before .loop-test .taken) (sym (ap placeOf (c .enum-told .given .1)) ∙ c .before .before .place-of-fault .ensures) ∙ c .before .before .before .before .loop .inv .2)
+loop-again c =
+    let a = c .before .before .before .before .before .before .before .before .before .args in
+    let l = c .before .before .before .before .loop in
+    (omega arith, omega arith, judge-next (tableAt (a .frames .now) (a .head)) (a .marks .now) (a .left .now) (a .right .now) (l .number) (c .before .before .before .loop-test .taken) (sym (ap placeOf (c .enum-told .given .1)) ∙ c .before .before .place-of-fault .ensures) ∙ l .inv .2)
 
 returns-2 : tie.Need-returns-2 Inv-loop μ-loop
-returns-2 c = judge-end (tableAt (c .before .before .before .before .before .before .args .frames .now) (c .before .before .before .before .before .before .args .head)) (c .before .before .before .before .before .before .args .marks .now) (c .before .before .before .before .before .before .args .left .now) (c .before .before .before .before .before .before .args .right .now) (c .before .loop .number) (c .loop-test .left) ∙ c .before .loop .inv .2
+returns-2 c =
+    let a = c .before .before .before .before .before .before .args in
+    let l = c .before .loop in
+    judge-end (tableAt (a .frames .now) (a .head)) (a .marks .now) (a .left .now) (a .right .now) (l .number) (c .loop-test .left) ∙ l .inv .2
 
 pub first-fault-spec : {M : Type 1} → statement M
 first-fault-spec =

@@ -24,27 +24,35 @@ least-state-requires : tie.Need-least-state-requires
 least-state-requires c κs = search needs
 
 returns : tie.Need-returns
-returns c = c .start-fault .ensures ∙ sym (ap (λ n. leastAt n (tableAt (c .before .before .before .before .before .before .args .frames .now) (c .before .before .before .before .before .before .args .head)) (c .before .before .before .before .before .before .args .marks .now) (c .before .before .before .before .before .before .args .left .now) (c .before .before .before .before .before .before .args .right .now)) (c .before .match .keys1))
+returns c =
+    let a = c .before .before .before .before .before .before .args in
+    c .start-fault .ensures ∙ sym (ap (λ n. leastAt n (tableAt (a .frames .now) (a .head)) (a .marks .now) (a .left .now) (a .right .now)) (c .before .match .keys1))
 
 returns-2 : tie.Need-returns-2
 returns-2 c =
-    let F = c .before .before .before .before .before .before .before .args .frames .now in
-    let h = c .before .before .before .before .before .before .before .args .head in
-    let k = K (c .before .before .before .before .before .before .before .args .left .now) in
+    let a = c .before .before .before .before .before .before .before .args in
+    let F = a .frames .now in
+    let h = a .head in
+    let k = K (a .left .now) in
     c .least-row .ensures ∙ ap (λ p. least (λ i. freeRow k (getElem? (rowsAt F p (h .rules)) i)) (h .rules) 0) (c .before .clamped .ensures .0)
     ∙ ap (λ n. least (λ i. freeRow k (getElem? (rowsAt F (near (h .rows)) (h .rules)) i)) n 0) (sym (rows-length F (near (h .rows)) (h .rules)))
-    ∙ sym (ap (λ n. leastAt n (tableAt F h) (c .before .before .before .before .before .before .before .args .marks .now) (c .before .before .before .before .before .before .before .args .left .now) (c .before .before .before .before .before .before .before .args .right .now)) (c .before .before .match .keys2))
+    ∙ sym (ap (λ n. leastAt n (tableAt F h) (a .marks .now) (a .left .now) (a .right .now)) (c .before .before .match .keys2))
 
 returns-3 : tie.Need-returns-3
 returns-3 c =
-    let T = tableAt (c .before .before .before .before .before .before .before .before .args .frames .now) (c .before .before .before .before .before .before .before .before .args .head) in
-    c .least-state .ensures T ∙ ap (λ n. least (passesAt (c .before .before .before .before .before .before .before .before .args .number) T (c .before .before .before .before .before .before .before .before .args .marks .now) (c .before .before .before .before .before .before .before .before .args .left .now) (c .before .before .before .before .before .before .before .before .args .right .now)) n 0) (sym (places-states (c .before .before .before .before .before .before .before .before .args .number) T (omega arith) (omega arith)))
+    let a = c .before .before .before .before .before .before .before .before .args in
+    let T = tableAt (a .frames .now) (a .head) in
+    c .least-state .ensures T ∙ ap (λ n. least (passesAt (a .number) T (a .marks .now) (a .left .now) (a .right .now)) n 0) (sym (places-states (a .number) T (omega arith) (omega arith)))
 
 returns-4 : tie.Need-returns-4
-returns-4 c = least-none (tableAt (c .before .before .before .before .before .before .args .frames .now) (c .before .before .before .before .before .before .args .head)) (c .before .before .before .before .before .before .args .marks .now) (c .before .before .before .before .before .before .args .left .now) (c .before .before .before .before .before .before .args .right .now) (c .before .before .before .before .before .before .args .number) (λ e. omega arith) (λ e. omega arith) (λ e. omega arith) (λ e. omega arith) (λ e. omega arith) (λ e. omega arith)
+returns-4 c =
+    let a = c .before .before .before .before .before .before .args in
+    least-none (tableAt (a .frames .now) (a .head)) (a .marks .now) (a .left .now) (a .right .now) (a .number) (λ e. omega arith) (λ e. omega arith) (λ e. omega arith) (λ e. omega arith) (λ e. omega arith) (λ e. omega arith)
 
 returns-5 : tie.Need-returns-5
-returns-5 c = least-none (tableAt (c .before .before .before .before .before .before .before .args .frames .now) (c .before .before .before .before .before .before .before .args .head)) (c .before .before .before .before .before .before .before .args .marks .now) (c .before .before .before .before .before .before .before .args .left .now) (c .before .before .before .before .before .before .before .args .right .now) (c .before .before .before .before .before .before .before .args .number) (λ e. omega arith) (λ e. omega arith) (λ e. omega arith) (λ e. omega arith) (c .before .before .match .rest .0 .1) (c .before .before .match .rest .1)
+returns-5 c =
+    let a = c .before .before .before .before .before .before .before .args in
+    least-none (tableAt (a .frames .now) (a .head)) (a .marks .now) (a .left .now) (a .right .now) (a .number) (λ e. omega arith) (λ e. omega arith) (λ e. omega arith) (λ e. omega arith) (c .before .before .match .rest .0 .1) (c .before .before .match .rest .1)
 
 pub place-of-fault-spec : {M : Type 1} → statement M
 place-of-fault-spec =

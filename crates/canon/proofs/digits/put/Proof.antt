@@ -1,5 +1,5 @@
 -- `put` meets its contract: a byte that has no place is left out.
-use Rattle.canon.proofs.Room.{wrote-inside, wrote-outside}
+use Rattle.canon.proofs.Room.{wrote-outside}
 use borrow.Author.Needs.{needs}
 use Rattle.canon.proofs.digits.put.Statement.{statement}
 use Rattle.canon.proofs.digits.put.Tie as tie

@@ -1,7 +1,5 @@
 -- `put_row` meets its contract: the pieces of the line in turn.
 use native.Mathlib.Omega.{arith}
-use mathlib.Core.Path.{ap, _∙_, sym}
-use lib.ListN.{length}
 use Rattle.canon.proofs.Room.{wrote-then, wrote-as}
 use Rattle.canon.proofs.Written.{row-line, wrote-children}
 use borrow.Author.Needs.{needs}

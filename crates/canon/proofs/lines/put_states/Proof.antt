@@ -1,5 +1,5 @@
 -- `put_states` meets its contract: the lines of the states passed.
-use mathlib.Core.Path.{_≡_, refl, _∙_, ap, subst, sym}
+use mathlib.Core.Path.{_≡_, refl, _∙_, subst, sym}
 use Prim.Native.Nat.{ℕ, _+_, _-_, _*_, _≤_}
 use native.Mathlib.Omega.{arith}
 use lib.ListN.{length, getD, take}

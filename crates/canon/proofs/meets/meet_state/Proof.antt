@@ -2,7 +2,7 @@
 use mathlib.Core.Path.{_≡_, sym, ap, _∙_}
 use Prim.Native.Nat.{ℕ}
 use native.Mathlib.Omega.{arith}
-use lib.ListN.{getD, length-set}
+use lib.ListN.{getD}
 use Rattle.canon.proofs.Marks.{met-old, met-full, met-new}
 use borrow.Author.Needs.{needs}
 use Rattle.canon.proofs.meets.meet_state.Statement.{statement}

@@ -28,9 +28,10 @@ past-requires c κs = search needs
 
 loop-holds : tie.Need-loop-holds Inv-loop μ-loop
 loop-holds c =
-    let F = c .before .before .before .before .args .frames .now in
-    let k = K (c .before .before .before .before .args .left .now) in
-    (c .past .ensures .1, ap (λ n. free k (childrenAt F n (c .before .kids-at .result))) (c .past .ensures .0) ∙ ap (λ n. free k (childrenAt F (pastAt F (c .before .before .before .before .args .at + 3)) n)) (c .before .kids-at .ensures .0))
+    let a = c .before .before .before .before .args in
+    let F = a .frames .now in
+    let k = K (a .left .now) in
+    (c .past .ensures .1, ap (λ n. free k (childrenAt F n (c .before .kids-at .result))) (c .past .ensures .0) ∙ ap (λ n. free k (childrenAt F (pastAt F (a .at + 3)) n)) (c .before .kids-at .ensures .0))
 
 byte-requires : tie.Need-byte-requires Inv-loop μ-loop
 byte-requires c κs = search needs
@@ -49,11 +50,13 @@ stuck-at-requires c κs = search needs
 
 returns : tie.Need-returns Inv-loop μ-loop
 returns c =
-    let F = c .before .before .before .before .before .before .before .before .before .before .before .args .frames .now in
-    let v = c .before .before .before .before .before .before .before .before .before .before .before .args .left .now in
-    let p = c .before .before .before .before .before .before .loop .p in
+    let a = c .before .before .before .before .before .before .before .before .before .before .before .args in
+    let l = c .before .before .before .before .before .before .loop in
+    let F = a .frames .now in
+    let v = a .left .now in
+    let p = l .p in
     let e = ap (λ n. K v n) (sym (c .before .before .before .wide .ensures .0 ∙ c .before .before .before .before .byte .ensures)) in
-    sym (free-stuck F v p (c .before .before .before .before .before .before .loop .kids) (c .before .before .before .before .before .loop-test .taken) (ap (λ y. stuck y (wordAt F (p + 1))) e ∙ sym (c .before .stuck-at .ensures ∙ ap (λ n. stuck (decode n) (wordAt F (p + 1))) (c .before .before .kept .ensures)) ∙ c .if1 .taken)) ∙ c .before .before .before .before .before .before .loop .inv .1
+    sym (free-stuck F v p (l .kids) (c .before .before .before .before .before .loop-test .taken) (ap (λ y. stuck y (wordAt F (p + 1))) e ∙ sym (c .before .stuck-at .ensures ∙ ap (λ n. stuck (decode n) (wordAt F (p + 1))) (c .before .before .kept .ensures)) ∙ c .if1 .taken)) ∙ l .inv .1
 
 add-past-2 : tie.Need-add-past-2 Inv-loop μ-loop
 add-past-2 c = search needs
@@ -69,15 +72,20 @@ loop-less c = search needs
 
 loop-again : tie.Need-loop-again Inv-loop μ-loop
 loop-again c =
-    let F = c .before .before .before .before .before .before .before .before .before .before .before .before .args .frames .now in
-    let v = c .before .before .before .before .before .before .before .before .before .before .before .before .args .left .now in
-    let p = c .before .before .before .before .before .before .before .loop .p in
-    let n = c .before .before .before .before .before .before .before .loop .kids in
+    let a = c .before .before .before .before .before .before .before .before .before .before .before .before .args in
+    let l = c .before .before .before .before .before .before .before .loop in
+    let F = a .frames .now in
+    let v = a .left .now in
+    let p = l .p in
+    let n = l .kids in
     let e = ap (λ n. K v n) (sym (c .before .before .before .before .wide .ensures .0 ∙ c .before .before .before .before .before .byte .ensures)) in
-    (c .past2 .ensures .1, ap (λ x. free (K v) (childrenAt F x (n - 1))) (c .past2 .ensures .0) ∙ sym (free-more F v p n (c .before .before .before .before .before .before .loop-test .taken) (ap (λ y. stuck y (wordAt F (p + 1))) e ∙ sym (c .before .before .stuck-at .ensures ∙ ap (λ n. stuck (decode n) (wordAt F (p + 1))) (c .before .before .before .kept .ensures)) ∙ c .before .if1 .left)) ∙ c .before .before .before .before .before .before .before .loop .inv .1)
+    (c .past2 .ensures .1, ap (λ x. free (K v) (childrenAt F x (n - 1))) (c .past2 .ensures .0) ∙ sym (free-more F v p n (c .before .before .before .before .before .before .loop-test .taken) (ap (λ y. stuck y (wordAt F (p + 1))) e ∙ sym (c .before .before .stuck-at .ensures ∙ ap (λ n. stuck (decode n) (wordAt F (p + 1))) (c .before .before .before .kept .ensures)) ∙ c .before .if1 .left)) ∙ l .inv .1)
 
 returns-2 : tie.Need-returns-2 Inv-loop μ-loop
-returns-2 c = free-none (c .before .before .before .before .before .before .args .frames .now) (c .before .before .before .before .before .before .args .left .now) (c .before .loop .p) (c .before .loop .kids) (omega arith) ∙ c .before .loop .inv .1
+returns-2 c =
+    let a = c .before .before .before .before .before .before .args in
+    let l = c .before .loop in
+    free-none (a .frames .now) (a .left .now) (l .p) (l .kids) (omega arith) ∙ l .inv .1
 
 pub free-row-spec : {M : Type 1} → statement M
 free-row-spec =

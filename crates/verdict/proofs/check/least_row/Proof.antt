@@ -19,19 +19,23 @@ abbrev μ-loop : tie.MeasureT-loop
 μ-loop frames rows rules left p₀ i₀ p i = rules - i
 
 loop-holds : tie.Need-loop-holds Inv-loop μ-loop
-loop-holds c = (c .before .before .pre, omega arith, standing-first (c .before .before .args .frames .now) (c .before .before .args .rows) (c .before .before .args .rules), ap (λ n. least (λ j. freeRow (K (c .before .before .args .left .now)) (getElem? (rowsAt (c .before .before .args .frames .now) (c .before .before .args .rows) (c .before .before .args .rules)) j)) n 0) (omega arith))
+loop-holds c =
+    let a = c .before .before .args in
+    (c .before .before .pre, omega arith, standing-first (a .frames .now) (a .rows) (a .rules), ap (λ n. least (λ j. freeRow (K (a .left .now)) (getElem? (rowsAt (a .frames .now) (a .rows) (a .rules)) j)) n 0) (omega arith))
 
 free-row-requires : tie.Need-free-row-requires Inv-loop μ-loop
 free-row-requires c κs = search needs
 
 returns : tie.Need-returns Inv-loop μ-loop
 returns c =
-    let F = c .before .before .before .before .before .before .args .frames .now in
-    let k = K (c .before .before .before .before .before .before .args .left .now) in
-    let rows = c .before .before .before .before .before .before .args .rows in
-    let rules = c .before .before .before .before .before .before .args .rules in
-    let e = standing-row F rows rules (c .before .before .before .loop .i) (c .before .before .before .loop .p) (c .before .before .before .loop .inv .2) (c .before .before .loop-test .taken) in
-    least-here (λ j. freeRow k (getElem? (rowsAt F rows rules) j)) rules (c .before .before .before .loop .i) (c .before .before .loop-test .taken) (ap (freeRow k) e ∙ sym (c .before .free-row .ensures) ∙ not-true _ (c .if1 .taken)) ∙ c .before .before .before .loop .inv .3
+    let a = c .before .before .before .before .before .before .args in
+    let l = c .before .before .before .loop in
+    let F = a .frames .now in
+    let k = K (a .left .now) in
+    let rows = a .rows in
+    let rules = a .rules in
+    let e = standing-row F rows rules (l .i) (l .p) (l .inv .2) (c .before .before .loop-test .taken) in
+    least-here (λ j. freeRow k (getElem? (rowsAt F rows rules) j)) rules (l .i) (c .before .before .loop-test .taken) (ap (freeRow k) e ∙ sym (c .before .free-row .ensures) ∙ not-true _ (c .if1 .taken)) ∙ l .inv .3
 
 past-row-requires : tie.Need-past-row-requires Inv-loop μ-loop
 past-row-requires c κs = search needs
@@ -44,19 +48,24 @@ loop-less c = search needs
 
 loop-again : tie.Need-loop-again Inv-loop μ-loop
 loop-again c =
-    let F = c .before .before .before .before .before .before .before .args .frames .now in
-    let k = K (c .before .before .before .before .before .before .before .args .left .now) in
-    let rows = c .before .before .before .before .before .before .before .args .rows in
-    let rules = c .before .before .before .before .before .before .before .args .rules in
-    let e = standing-row F rows rules (c .before .before .before .before .loop .i) (c .before .before .before .before .loop .p) (c .before .before .before .before .loop .inv .2) (c .before .before .before .loop-test .taken) in (
+    let a = c .before .before .before .before .before .before .before .args in
+    let l = c .before .before .before .before .loop in
+    let F = a .frames .now in
+    let k = K (a .left .now) in
+    let rows = a .rows in
+    let rules = a .rules in
+    let e = standing-row F rows rules (l .i) (l .p) (l .inv .2) (c .before .before .before .loop-test .taken) in (
       c .past-row .ensures .1,
       omega arith,
-      standing-more F rows rules (c .before .before .before .before .loop .i) (c .before .before .before .before .loop .p) (c .before .before .before .before .loop .inv .2) (c .before .before .before .loop-test .taken) (c .past-row .result) (c .past-row .ensures .0),
-      least-on (λ j. freeRow k (getElem? (rowsAt F rows rules) j)) rules (c .before .before .before .before .loop .i) (c .before .before .before .loop-test .taken) (ap (freeRow k) e ∙ sym (c .before .before .free-row .ensures) ∙ not-false _ (c .before .if1 .left)) ∙ c .before .before .before .before .loop .inv .3,
+      standing-more F rows rules (l .i) (l .p) (l .inv .2) (c .before .before .before .loop-test .taken) (c .past-row .result) (c .past-row .ensures .0),
+      least-on (λ j. freeRow k (getElem? (rowsAt F rows rules) j)) rules (l .i) (c .before .before .before .loop-test .taken) (ap (freeRow k) e ∙ sym (c .before .before .free-row .ensures) ∙ not-false _ (c .before .if1 .left)) ∙ l .inv .3,
     )
 
 returns-2 : tie.Need-returns-2 Inv-loop μ-loop
-returns-2 c = least-end (λ j. freeRow (K (c .before .before .before .before .args .left .now)) (getElem? (rowsAt (c .before .before .before .before .args .frames .now) (c .before .before .before .before .args .rows) (c .before .before .before .before .args .rules)) j)) (c .before .before .before .before .args .rules) (c .before .loop .i) (omega arith) ∙ c .before .loop .inv .3
+returns-2 c =
+    let a = c .before .before .before .before .args in
+    let l = c .before .loop in
+    least-end (λ j. freeRow (K (a .left .now)) (getElem? (rowsAt (a .frames .now) (a .rows) (a .rules)) j)) (a .rules) (l .i) (omega arith) ∙ l .inv .3
 
 pub least-row-spec : {M : Type 1} → statement M
 least-row-spec =

@@ -18,13 +18,18 @@ abbrev μ-loop : tie.MeasureT-loop
 μ-loop number states marks left right q₀ q = states - q
 
 loop-holds : tie.Need-loop-holds Inv-loop μ-loop
-loop-holds c = (omega arith, λ T. ap (λ n. least (passesAt (c .before .before .before .args .number) T (c .before .before .before .args .marks .now) (c .before .before .before .args .left .now) (c .before .before .before .args .right .now)) n 0) (omega arith))
+loop-holds c =
+    let a = c .before .before .before .args in
+    (omega arith, λ T. ap (λ n. least (passesAt (a .number) T (a .marks .now) (a .left .now) (a .right .now)) n 0) (omega arith))
 
 passes-requires : tie.Need-passes-requires Inv-loop μ-loop
 passes-requires c κs = search needs
 
 returns : tie.Need-returns Inv-loop μ-loop
-returns c = λ T. least-here (passesAt (c .before .before .before .before .before .before .before .args .number) T (c .before .before .before .before .before .before .before .args .marks .now) (c .before .before .before .before .before .before .before .args .left .now) (c .before .before .before .before .before .before .before .args .right .now)) (c .before .before .before .before .before .before .before .args .states) (c .before .before .before .loop .q) (c .before .before .loop-test .taken) (sym (c .before .passes .ensures T) ∙ not-true (c .before .passes .result) (c .if1 .taken)) ∙ c .before .before .before .loop .inv .1 T
+returns c =
+    let a = c .before .before .before .before .before .before .before .args in
+    let l = c .before .before .before .loop in
+    λ T. least-here (passesAt (a .number) T (a .marks .now) (a .left .now) (a .right .now)) (a .states) (l .q) (c .before .before .loop-test .taken) (sym (c .before .passes .ensures T) ∙ not-true (c .before .passes .result) (c .if1 .taken)) ∙ l .inv .1 T
 
 add-q : tie.Need-add-q Inv-loop μ-loop
 add-q c = search needs
@@ -33,10 +38,16 @@ loop-less : tie.Need-loop-less Inv-loop μ-loop
 loop-less c = search needs
 
 loop-again : tie.Need-loop-again Inv-loop μ-loop
-loop-again c = (omega arith, λ T. least-on (passesAt (c .before .before .before .before .before .before .before .args .number) T (c .before .before .before .before .before .before .before .args .marks .now) (c .before .before .before .before .before .before .before .args .left .now) (c .before .before .before .before .before .before .before .args .right .now)) (c .before .before .before .before .before .before .before .args .states) (c .before .before .before .loop .q) (c .before .before .loop-test .taken) (sym (c .before .passes .ensures T) ∙ not-false (c .before .passes .result) (c .if1 .left)) ∙ c .before .before .before .loop .inv .1 T)
+loop-again c =
+    let a = c .before .before .before .before .before .before .before .args in
+    let l = c .before .before .before .loop in
+    (omega arith, λ T. least-on (passesAt (a .number) T (a .marks .now) (a .left .now) (a .right .now)) (a .states) (l .q) (c .before .before .loop-test .taken) (sym (c .before .passes .ensures T) ∙ not-false (c .before .passes .result) (c .if1 .left)) ∙ l .inv .1 T)
 
 returns-2 : tie.Need-returns-2 Inv-loop μ-loop
-returns-2 c = λ T. least-end (passesAt (c .before .before .before .before .before .args .number) T (c .before .before .before .before .before .args .marks .now) (c .before .before .before .before .before .args .left .now) (c .before .before .before .before .before .args .right .now)) (c .before .before .before .before .before .args .states) (c .before .loop .q) (omega arith) ∙ c .before .loop .inv .1 T
+returns-2 c =
+    let a = c .before .before .before .before .before .args in
+    let l = c .before .loop in
+    λ T. least-end (passesAt (a .number) T (a .marks .now) (a .left .now) (a .right .now)) (a .states) (l .q) (omega arith) ∙ l .inv .1 T
 
 pub least-state-spec : {M : Type 1} → statement M
 least-state-spec =

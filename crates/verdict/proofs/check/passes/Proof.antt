@@ -22,19 +22,29 @@ kept-requires-3 : tie.Need-kept-requires-3
 kept-requires-3 c κs = search needs
 
 returns : tie.Need-returns
-returns c = λ T. ap (λ n. eqb n 1) (c .byte .ensures) ∙ sym (flag-at (c .before .before .before .before .before .args .marks .now) (c .before .before .before .before .before .args .q)) ∙ sym (ap (λ n. passesAt n T (c .before .before .before .before .before .args .marks .now) (c .before .before .before .before .before .args .left .now) (c .before .before .before .before .before .args .right .now) (c .before .before .before .before .before .args .q)) (c .before .match .keys1))
+returns c =
+    let a = c .before .before .before .before .before .args in
+    λ T. ap (λ n. eqb n 1) (c .byte .ensures) ∙ sym (flag-at (a .marks .now) (a .q)) ∙ sym (ap (λ n. passesAt n T (a .marks .now) (a .left .now) (a .right .now) (a .q)) (c .before .match .keys1))
 
 returns-2 : tie.Need-returns-2
-returns-2 c = λ T. lives-test (c .kept .result) (getD (c .before .before .before .before .before .args .left .now) (c .before .before .before .before .before .args .q) 0) (c .kept .ensures) ∙ sym (ap (λ n. passesAt n T (c .before .before .before .before .before .args .marks .now) (c .before .before .before .before .before .args .left .now) (c .before .before .before .before .before .args .right .now) (c .before .before .before .before .before .args .q)) (c .before .match .keys2))
+returns-2 c =
+    let a = c .before .before .before .before .before .args in
+    λ T. lives-test (c .kept .result) (getD (a .left .now) (a .q) 0) (c .kept .ensures) ∙ sym (ap (λ n. passesAt n T (a .marks .now) (a .left .now) (a .right .now) (a .q)) (c .before .match .keys2))
 
 returns-3 : tie.Need-returns-3
-returns-3 c = λ T. clean-test (c .kept2 .result) (getD (c .before .before .before .before .before .args .left .now) (c .before .before .before .before .before .args .q) 0) (c .kept2 .ensures) ∙ sym (ap (λ n. passesAt n T (c .before .before .before .before .before .args .marks .now) (c .before .before .before .before .before .args .left .now) (c .before .before .before .before .before .args .right .now) (c .before .before .before .before .before .args .q)) (c .before .match .keys3))
+returns-3 c =
+    let a = c .before .before .before .before .before .args in
+    λ T. clean-test (c .kept2 .result) (getD (a .left .now) (a .q) 0) (c .kept2 .ensures) ∙ sym (ap (λ n. passesAt n T (a .marks .now) (a .left .now) (a .right .now) (a .q)) (c .before .match .keys3))
 
 returns-4 : tie.Need-returns-4
-returns-4 c = λ T. clean-test (c .kept3 .result) (getD (c .before .before .before .before .before .args .right .now) (c .before .before .before .before .before .args .q) 0) (c .kept3 .ensures) ∙ sym (ap (λ n. passesAt n T (c .before .before .before .before .before .args .marks .now) (c .before .before .before .before .before .args .left .now) (c .before .before .before .before .before .args .right .now) (c .before .before .before .before .before .args .q)) (c .before .match .keys4))
+returns-4 c =
+    let a = c .before .before .before .before .before .args in
+    λ T. clean-test (c .kept3 .result) (getD (a .right .now) (a .q) 0) (c .kept3 .ensures) ∙ sym (ap (λ n. passesAt n T (a .marks .now) (a .left .now) (a .right .now) (a .q)) (c .before .match .keys4))
 
 returns-5 : tie.Need-returns-5
-returns-5 c = λ T. passes-other (c .before .before .before .before .args .number) T (c .before .before .before .before .args .marks .now) (c .before .before .before .before .args .left .now) (c .before .before .before .before .args .right .now) (c .before .before .before .before .args .q) (c .match .rest .0 .0 .0 .1) (c .match .rest .0 .0 .1) (c .match .rest .0 .1) (c .match .rest .1) (c .before .before .before .before .pre)
+returns-5 c =
+    let a = c .before .before .before .before .args in
+    λ T. passes-other (a .number) T (a .marks .now) (a .left .now) (a .right .now) (a .q) (c .match .rest .0 .0 .0 .1) (c .match .rest .0 .0 .1) (c .match .rest .0 .1) (c .match .rest .1) (c .before .before .before .before .pre)
 
 pub passes-spec : {M : Type 1} → statement M
 passes-spec =

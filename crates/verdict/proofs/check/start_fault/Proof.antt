@@ -15,10 +15,14 @@ stuck-at-requires : tie.Need-stuck-at-requires
 stuck-at-requires c κs = search needs
 
 returns : tie.Need-returns
-returns c = start-found (stuck (K (c .before .before .before .before .before .args .left .now) (c .before .before .before .before .before .args .start)) (wordAt (c .before .before .before .before .before .args .frames .now) (c .before .before .before .before .before .args .after))) (sym (c .before .stuck-at .ensures ∙ ap (λ n. stuck (decode n) (wordAt (c .before .before .before .before .before .args .frames .now) (c .before .before .before .before .before .args .after))) (c .before .before .kept .ensures)) ∙ c .if1 .taken)
+returns c =
+    let a = c .before .before .before .before .before .args in
+    start-found (stuck (K (a .left .now) (a .start)) (wordAt (a .frames .now) (a .after))) (sym (c .before .stuck-at .ensures ∙ ap (λ n. stuck (decode n) (wordAt (a .frames .now) (a .after))) (c .before .before .kept .ensures)) ∙ c .if1 .taken)
 
 returns-2 : tie.Need-returns-2
-returns-2 c = start-free (stuck (K (c .before .before .before .before .before .args .left .now) (c .before .before .before .before .before .args .start)) (wordAt (c .before .before .before .before .before .args .frames .now) (c .before .before .before .before .before .args .after))) (sym (c .before .stuck-at .ensures ∙ ap (λ n. stuck (decode n) (wordAt (c .before .before .before .before .before .args .frames .now) (c .before .before .before .before .before .args .after))) (c .before .before .kept .ensures)) ∙ c .if1 .left)
+returns-2 c =
+    let a = c .before .before .before .before .before .args in
+    start-free (stuck (K (a .left .now) (a .start)) (wordAt (a .frames .now) (a .after))) (sym (c .before .stuck-at .ensures ∙ ap (λ n. stuck (decode n) (wordAt (a .frames .now) (a .after))) (c .before .before .kept .ensures)) ∙ c .if1 .left)
 
 pub start-fault-spec : {M : Type 1} → statement M
 start-fault-spec = tie.close (tie.spec kept-requires stuck-at-requires returns returns-2)

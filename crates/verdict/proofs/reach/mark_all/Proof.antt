@@ -2,36 +2,39 @@
 use mathlib.Core.Path.{_∙_}
 use Prim.Native.Nat.{_-_}
 use native.Mathlib.Omega.{arith}
-use Rattle.ends.specs.Companion.{marked}
+use Rattle.ends.specs.Companion.{marked, spread}
 use Rattle.verdict.specs.Codes.{flags}
 use Rattle.verdict.specs.Reading.{rowsAt}
-use Rattle.verdict.proofs.Marks.{After, after-none, after-more, after-last, marked-less}
+use Rattle.verdict.proofs.Rounds.{After, after-none, after-more, after-last, stepped-less}
+use Rattle.verdict.proofs.Marks.{marked-most, spread-still}
 use Rattle.verdict.proofs.reach.mark_all.Statement.{statement}
 use Rattle.verdict.proofs.reach.mark_all.Tie as tie
 
 abbrev Inv-loop : tie.InvT-loop
-Inv-loop frames rows rules marks₀ marks = After (rowsAt frames rows rules) marks₀ marks
+Inv-loop frames rows rules marks₀ marks = After flags (spread (rowsAt frames rows rules)) marks₀ marks
 
 abbrev μ-loop : tie.MeasureT-loop
 μ-loop frames rows rules marks₀ marks = 64 - marked (flags marks)
 
 loop-holds : tie.Need-loop-holds Inv-loop μ-loop
-loop-holds c = after-none (rowsAt (c .before .before .args .frames .now) (c .before .before .args .rows) (c .before .before .args .rules)) (c .before .before .args .marks .now)
+loop-holds c = after-none (c .before .before .args .marks .now)
 
 mark-rows-requires : tie.Need-mark-rows-requires Inv-loop μ-loop
 mark-rows-requires c κs = (c .before .before .before .before .pre .0, c .before .loop .inv .long ∙ c .before .before .before .before .pre .1)
 
 loop-less : tie.Need-loop-less Inv-loop μ-loop
-loop-less c = marked-less (c .before .before .before .mark-rows .ensures) (c .before .before .before .before .before .loop .inv .long ∙ c .before .before .before .before .before .before .before .before .pre .1) (c .if1 .left)
+loop-less c = stepped-less 64 marked-most (c .before .before .before .mark-rows .ensures) (c .before .before .before .before .before .loop .inv .long ∙ c .before .before .before .before .before .before .before .before .pre .1) (c .if1 .left)
 
 loop-again : tie.Need-loop-again Inv-loop μ-loop
-loop-again c = after-more (rowsAt (c .before .before .before .before .before .before .before .before .args .frames .now) (c .before .before .before .before .before .before .before .before .args .rows) (c .before .before .before .before .before .before .before .before .args .rules)) (c .before .before .before .before .before .before .before .before .args .marks .now) (c .before .before .before .before .before .loop .inv) (c .before .before .before .mark-rows .ensures)
+loop-again c = after-more (c .before .before .before .before .before .loop .inv) (c .before .before .before .mark-rows .ensures)
 
 same-length : tie.Need-same-length Inv-loop μ-loop
 same-length c = omega (arith, c .before .before .before .mark-rows .ensures .long, c .before .before .before .before .before .loop .inv .long)
 
 returns : tie.Need-returns Inv-loop μ-loop
-returns c = after-last (rowsAt (c .before .before .before .before .before .before .before .before .args .frames .now) (c .before .before .before .before .before .before .before .before .args .rows) (c .before .before .before .before .before .before .before .before .args .rules)) (c .before .before .before .before .before .before .before .before .args .marks .now) (c .before .before .before .before .before .loop .inv) (c .before .before .before .mark-rows .ensures) (c .if1 .taken)
+returns c =
+    let a = c .before .before .before .before .before .before .before .before .args in
+    after-last (spread-still (rowsAt (a .frames .now) (a .rows) (a .rules))) (c .before .before .before .before .before .loop .inv) (c .before .before .before .mark-rows .ensures) (c .if1 .taken)
 
 pub mark-all-spec : {M : Type 1} → statement M
 mark-all-spec =

@@ -3,18 +3,18 @@ use mathlib.Core.Path.{refl, sym, ap, _∙_}
 use mathlib.Core.Bool.{true}
 use Prim.Native.Nat.{_+_, _-_}
 use native.Mathlib.Omega.{arith}
-use lib.ListN.{set}
-use Rattle.ends.specs.Companion.{markAll}
+use lib.ListN.{getD, set}
+use Rattle.ends.specs.Companion.{marked, markAll}
 use Rattle.verdict.specs.Codes.{flags}
 use Rattle.verdict.specs.Reading.{pastAt, childrenAt, rowAt}
-use Rattle.verdict.proofs.Marks.{Going, going-more, going-done, going-most, mark-more, mark-none}
-use lib.ListN.{getD}
+use Rattle.verdict.proofs.Rounds.{Going, going-more, going-done, going-most}
+use Rattle.verdict.proofs.Marks.{marked-most, mark-more, mark-none}
 use borrow.Author.Needs.{needs}
 use Rattle.verdict.proofs.reach.mark_rest.Statement.{statement}
 use Rattle.verdict.proofs.reach.mark_rest.Tie as tie
 
 abbrev Inv-loop : tie.InvT-loop
-Inv-loop frames at marks₀ kids₀ p₀ k₀ marks kids p k = Going marks₀ marks k p (markAll (childrenAt frames p kids)) (markAll (rowAt frames at .rule .rest) (flags marks₀))
+Inv-loop frames at marks₀ kids₀ p₀ k₀ marks kids p k = Going flags marked marks₀ marks k p (markAll (childrenAt frames p kids)) (markAll (rowAt frames at .rule .rest) (flags marks₀))
 
 abbrev μ-loop : tie.MeasureT-loop
 μ-loop frames at marks₀ kids₀ p₀ k₀ marks kids p k = kids
@@ -30,12 +30,13 @@ past-requires c κs = search needs
 
 loop-holds : tie.Need-loop-holds Inv-loop μ-loop
 loop-holds c =
-    let F = c .before .before .before .before .args .frames .now in
-    let m = c .before .before .before .before .args .marks .now in
+    let a = c .before .before .before .before .args in
+    let F = a .frames .now in
+    let m = a .marks .now in
     record {
       near = c .past .ensures .1;
       long = refl;
-      remains = ap (λ n. markAll (childrenAt F n (c .before .kids-at .result)) (flags m)) (c .past .ensures .0) ∙ ap (λ n. markAll (childrenAt F (pastAt F (c .before .before .before .before .args .at + 3)) n) (flags m)) (c .before .kids-at .ensures .0);
+      remains = ap (λ n. markAll (childrenAt F n (c .before .kids-at .result)) (flags m)) (c .past .ensures .0) ∙ ap (λ n. markAll (childrenAt F (pastAt F (a .at + 3)) n) (flags m)) (c .before .kids-at .ensures .0);
       counts = omega arith;
     }
 
@@ -49,7 +50,7 @@ mark-at-requires : tie.Need-mark-at-requires Inv-loop μ-loop
 mark-at-requires c κs = search needs
 
 add-k : tie.Need-add-k Inv-loop μ-loop
-add-k c = omega (arith, going-most (c .before .before .before .before .before .before .before .loop .inv) (c .before .before .mark-at .ensures), c .before .before .before .before .before .before .before .before .before .before .before .before .pre .1)
+add-k c = omega (arith, going-most 64 marked-most (c .before .before .before .before .before .before .before .before .before .before .before .before .pre .1) (c .before .before .before .before .before .before .before .loop .inv) (c .before .before .mark-at .ensures))
 
 add-past-2 : tie.Need-add-past-2 Inv-loop μ-loop
 add-past-2 c = omega (arith, c .before .before .before .before .before .before .before .loop .inv .near)
@@ -65,11 +66,12 @@ loop-less c = search needs
 
 loop-again : tie.Need-loop-again Inv-loop μ-loop
 loop-again c =
+    let l = c .before .before .before .before .before .before .before .before .loop in
     let F = c .before .before .before .before .before .before .before .before .before .before .before .before .before .args .frames .now in
-    let p = c .before .before .before .before .before .before .before .before .loop .p in
-    let kids = c .before .before .before .before .before .before .before .before .loop .kids in
+    let p = l .p in
+    let kids = l .kids in
     let q = c .before .before .before .before .before .wide .result in
-    going-more (c .before .before .before .before .before .before .before .before .loop .inv) (λ ms. set ms q true) (c .before .before .before .mark-at .ensures) (markAll (childrenAt F (c .past2 .result) (kids - 1)))
+    going-more (l .inv) (λ ms. set ms q true) (c .before .before .before .mark-at .ensures) (markAll (childrenAt F (c .past2 .result) (kids - 1)))
     (λ ms. mark-more F p kids (c .before .before .before .before .before .before .before .loop-test .taken) ms ∙ ap (λ x. markAll (childrenAt F x (kids - 1)) (set ms (getD F p 0) true)) (sym (c .past2 .ensures .0)) ∙ ap (λ x. markAll (childrenAt F (c .past2 .result) (kids - 1)) (set ms x true)) (sym (c .before .before .before .before .before .wide .ensures .0 ∙ c .before .before .before .before .before .before .byte .ensures)))
     (c .past2 .result) (c .past2 .ensures .1)
 

@@ -23,7 +23,9 @@ same-length : tie.Need-same-length
 same-length c = search needs
 
 returns : tie.Need-returns
-returns c = follow-not (rowAt (c .before .before .before .before .before .before .before .args .frames .now) (c .before .before .before .before .before .before .before .args .at)) (c .before .before .before .before .before .before .before .args .marks .now) (λ e. c .if1 .taken (c .before .byte2 .ensures ∙ ap (λ q. getD (c .before .before .before .before .before .before .before .args .marks .now) q 0) (c .before .before .before .wide .ensures .0 ∙ c .before .before .before .before .byte .ensures) ∙ e))
+returns c =
+    let a = c .before .before .before .before .before .before .before .args in
+    follow-not (rowAt (a .frames .now) (a .at)) (a .marks .now) (λ e. c .if1 .taken (c .before .byte2 .ensures ∙ ap (λ q. getD (a .marks .now) q 0) (c .before .before .before .wide .ensures .0 ∙ c .before .before .before .before .byte .ensures) ∙ e))
 
 mark-rest-requires : tie.Need-mark-rest-requires
 mark-rest-requires c κs = search needs
@@ -32,7 +34,9 @@ same-length-2 : tie.Need-same-length-2
 same-length-2 c = search needs
 
 returns-2 : tie.Need-returns-2
-returns-2 c = follow-on (rowAt (c .before .before .before .before .before .before .before .before .before .before .before .args .frames .now) (c .before .before .before .before .before .before .before .before .before .before .before .args .at)) (c .before .before .before .before .before .before .before .before .before .before .before .args .marks .now) (ap (λ q. getD (c .before .before .before .before .before .before .before .before .before .before .before .args .marks .now) q 0) (sym (c .before .before .before .before .before .before .before .wide .ensures .0 ∙ c .before .before .before .before .before .before .before .before .byte .ensures)) ∙ sym (c .before .before .before .before .before .byte2 .ensures) ∙ c .before .before .before .before .if1 .left) (c .before .before .mark-rest .ensures)
+returns-2 c =
+    let a = c .before .before .before .before .before .before .before .before .before .before .before .args in
+    follow-on (rowAt (a .frames .now) (a .at)) (a .marks .now) (ap (λ q. getD (a .marks .now) q 0) (sym (c .before .before .before .before .before .before .before .wide .ensures .0 ∙ c .before .before .before .before .before .before .before .before .byte .ensures)) ∙ sym (c .before .before .before .before .before .byte2 .ensures) ∙ c .before .before .before .before .if1 .left) (c .before .before .mark-rest .ensures)
 
 pub mark-row-spec : {M : Type 1} → statement M
 mark-row-spec =

@@ -2,28 +2,31 @@
 use mathlib.Core.Path.{sym, ap, _∙_}
 use Prim.Native.Nat.{_-_}
 use native.Mathlib.Omega.{arith}
-use Rattle.ends.specs.Companion.{follow, spread}
+use Rattle.ends.specs.Companion.{marked, follow, spread}
 use Rattle.verdict.specs.Codes.{flags}
 use Rattle.verdict.specs.Reading.{rowAt, rowsAt}
-use Rattle.verdict.proofs.Marks.{Going, going-none, going-more, going-done, going-most, spread-more, spread-none}
+use Rattle.verdict.proofs.Rounds.{Going, going-none, going-more, going-done, going-most}
+use Rattle.verdict.proofs.Marks.{marked-most, spread-more, spread-none}
 use borrow.Author.Needs.{needs}
 use Rattle.verdict.proofs.reach.mark_rows.Statement.{statement}
 use Rattle.verdict.proofs.reach.mark_rows.Tie as tie
 
 abbrev Inv-loop : tie.InvT-loop
-Inv-loop frames rows rules marks₀ left₀ p₀ k₀ marks left p k = Going marks₀ marks k p (spread (rowsAt frames p left)) (spread (rowsAt frames rows rules) (flags marks₀))
+Inv-loop frames rows rules marks₀ left₀ p₀ k₀ marks left p k = Going flags marked marks₀ marks k p (spread (rowsAt frames p left)) (spread (rowsAt frames rows rules) (flags marks₀))
 
 abbrev μ-loop : tie.MeasureT-loop
 μ-loop frames rows rules marks₀ left₀ p₀ k₀ marks left p k = left
 
 loop-holds : tie.Need-loop-holds Inv-loop μ-loop
-loop-holds c = going-none (c .before .before .args .marks .now) (c .before .before .args .rows) (spread (rowsAt (c .before .before .args .frames .now) (c .before .before .args .rows) (c .before .before .args .rules))) (c .before .before .pre .0)
+loop-holds c =
+    let a = c .before .before .args in
+    going-none (a .marks .now) (a .rows) (spread (rowsAt (a .frames .now) (a .rows) (a .rules))) (c .before .before .pre .0)
 
 mark-row-requires : tie.Need-mark-row-requires Inv-loop μ-loop
 mark-row-requires c κs = (c .before .before .loop .inv .near, c .before .before .loop .inv .long ∙ c .before .before .before .before .before .pre .1)
 
 add-k : tie.Need-add-k Inv-loop μ-loop
-add-k c = omega (arith, going-most (c .before .before .before .before .before .loop .inv) (c .before .before .mark-row .ensures), c .before .before .before .before .before .before .before .before .pre .1)
+add-k c = omega (arith, going-most 64 marked-most (c .before .before .before .before .before .before .before .before .pre .1) (c .before .before .before .before .before .loop .inv) (c .before .before .mark-row .ensures))
 
 past-row-requires : tie.Need-past-row-requires Inv-loop μ-loop
 past-row-requires c κs = c .before .before .before .before .before .loop .inv .near

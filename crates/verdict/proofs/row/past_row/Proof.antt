@@ -24,7 +24,9 @@ past-requires : tie.Need-past-requires Inv-loop μ-loop
 past-requires c κs = search needs
 
 loop-holds : tie.Need-loop-holds Inv-loop μ-loop
-loop-holds c = (c .past .ensures .1, ap (λ n. childrenEnd (c .before .before .before .args .frames .now) n (c .before .kids-at .result)) (c .past .ensures .0) ∙ ap (λ n. childrenEnd (c .before .before .before .args .frames .now) (pastAt (c .before .before .before .args .frames .now) (c .before .before .before .args .at + 3)) n) (c .before .kids-at .ensures .0))
+loop-holds c =
+    let a = c .before .before .before .args in
+    (c .past .ensures .1, ap (λ n. childrenEnd (a .frames .now) n (c .before .kids-at .result)) (c .past .ensures .0) ∙ ap (λ n. childrenEnd (a .frames .now) (pastAt (a .frames .now) (a .at + 3)) n) (c .before .kids-at .ensures .0))
 
 add-past-2 : tie.Need-add-past-2 Inv-loop μ-loop
 add-past-2 c = search needs
@@ -39,7 +41,10 @@ loop-less : tie.Need-loop-less Inv-loop μ-loop
 loop-less c = search needs
 
 loop-again : tie.Need-loop-again Inv-loop μ-loop
-loop-again c = (c .past2 .ensures .1, ap (λ n. childrenEnd (c .before .before .before .before .before .before .args .frames .now) n (c .before .before .loop .left - 1)) (c .past2 .ensures .0) ∙ sym (end-more (c .before .before .before .before .before .before .args .frames .now) (c .before .before .loop .p) (c .before .before .loop .left) (c .before .loop-test .taken)) ∙ c .before .before .loop .inv .1)
+loop-again c =
+    let a = c .before .before .before .before .before .before .args in
+    let l = c .before .before .loop in
+    (c .past2 .ensures .1, ap (λ n. childrenEnd (a .frames .now) n (l .left - 1)) (c .past2 .ensures .0) ∙ sym (end-more (a .frames .now) (l .p) (l .left) (c .before .loop-test .taken)) ∙ l .inv .1)
 
 returns : tie.Need-returns Inv-loop μ-loop
 returns c = (sym (end-none (c .before .before .before .before .before .args .frames .now) (c .before .loop .p) (c .before .loop .left) (omega arith)) ∙ c .before .loop .inv .1, c .before .loop .inv .0)

@@ -24,7 +24,9 @@ lettered-requires : tie.Need-lettered-requires
 lettered-requires c κs = search needs
 
 returns-2 : tie.Need-returns-2
-returns-2 c = read-left (c .before .before .before .before .stretch .result .now) _ (c .before .before .before .before .stretch .ensures .0) (c .lettered .result) (c .before .before .before .if1 .left) (omega (arith, c .before .shared-slice-known2 .given 0)) (c .lettered .ensures) ∙ sym (ap (λ s. alone (end s (wordAt (c .before .before .before .before .before .before .args .frames .now) (c .before .before .before .before .before .before .args .at)))) (side-left (c .before .before .before .before .before .before .args .side) (c .before .before .if2 .taken)))
+returns-2 c =
+    let a = c .before .before .before .before .before .before .args in
+    read-left (c .before .before .before .before .stretch .result .now) _ (c .before .before .before .before .stretch .ensures .0) (c .lettered .result) (c .before .before .before .if1 .left) (omega (arith, c .before .shared-slice-known2 .given 0)) (c .lettered .ensures) ∙ sym (ap (λ s. alone (end s (wordAt (a .frames .now) (a .at)))) (side-left (a .side) (c .before .before .if2 .taken)))
 
 sub-lettered : tie.Need-sub-lettered
 sub-lettered c = search needs
@@ -36,7 +38,9 @@ lettered-requires-2 : tie.Need-lettered-requires-2
 lettered-requires-2 c κs = search needs
 
 returns-3 : tie.Need-returns-3
-returns-3 c = read-right (c .before .before .before .before .stretch .result .now) _ (c .before .before .before .before .stretch .ensures .0) (c .lettered2 .result) (c .before .before .before .if1 .left) (omega (arith, c .before .shared-slice-known3 .given (length (c .before .before .before .before .stretch .result .now) - 1))) (c .lettered2 .ensures) ∙ sym (ap (λ s. alone (end s (wordAt (c .before .before .before .before .before .before .args .frames .now) (c .before .before .before .before .before .before .args .at)))) (side-right (c .before .before .before .before .before .before .args .side) (c .before .before .if2 .left)))
+returns-3 c =
+    let a = c .before .before .before .before .before .before .args in
+    read-right (c .before .before .before .before .stretch .result .now) _ (c .before .before .before .before .stretch .ensures .0) (c .lettered2 .result) (c .before .before .before .if1 .left) (omega (arith, c .before .shared-slice-known3 .given (length (c .before .before .before .before .stretch .result .now) - 1))) (c .lettered2 .ensures) ∙ sym (ap (λ s. alone (end s (wordAt (a .frames .now) (a .at)))) (side-right (a .side) (c .before .before .if2 .left)))
 
 pub alone-at-spec : {M : Type 1} → statement M
 alone-at-spec =

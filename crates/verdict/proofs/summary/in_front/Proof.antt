@@ -17,13 +17,17 @@ letters-joined-requires : tie.Need-letters-joined-requires
 letters-joined-requires c κs = search needs
 
 returns-4 : tie.Need-returns-4
-returns-4 c = front-second (c .before .before .before .before .before .args .x) (c .before .before .before .before .before .args .y) (c .before .before .before .before .if1 .left) (c .before .before .before .if2 .left) (c .before .letters-joined .result) (c .before .letters-joined .ensures .1) (c .before .letters-joined .ensures .0) (c .before .before .if3 .left) (c .if4 .taken)
+returns-4 c =
+    let a = c .before .before .before .before .before .args in
+    front-second (a .x) (a .y) (c .before .before .before .before .if1 .left) (c .before .before .before .if2 .left) (c .before .letters-joined .result) (c .before .letters-joined .ensures .1) (c .before .letters-joined .ensures .0) (c .before .before .if3 .left) (c .if4 .taken)
 
 add-result : tie.Need-add-result
 add-result c = search needs
 
 returns-5 : tie.Need-returns-5
-returns-5 c = front-blank (c .before .before .before .before .before .args .x) (c .before .before .before .before .before .args .y) (c .before .before .before .before .if1 .left) (c .before .before .before .if2 .left) (c .before .letters-joined .result) (c .before .letters-joined .ensures .1) (c .before .letters-joined .ensures .0) (c .before .before .if3 .left) (c .if4 .left)
+returns-5 c =
+    let a = c .before .before .before .before .before .args in
+    front-blank (a .x) (a .y) (c .before .before .before .before .if1 .left) (c .before .before .before .if2 .left) (c .before .letters-joined .result) (c .before .letters-joined .ensures .1) (c .before .letters-joined .ensures .0) (c .before .before .if3 .left) (c .if4 .left)
 
 pub in-front-spec : {M : Type 1} → statement M
 in-front-spec =

@@ -17,10 +17,14 @@ add-result-2 : tie.Need-add-result-2
 add-result-2 c = search needs
 
 returns-2 : tie.Need-returns-2
-returns-2 c = join-second (c .before .before .before .args .x) (c .before .before .before .args .y) (c .before .before .letters-joined .result) (c .before .before .letters-joined .ensures .1) (c .before .before .letters-joined .ensures .0) (search needs) (search needs)
+returns-2 c =
+    let a = c .before .before .before .args in
+    join-second (a .x) (a .y) (c .before .before .letters-joined .result) (c .before .before .letters-joined .ensures .1) (c .before .before .letters-joined .ensures .0) (search needs) (search needs)
 
 returns-3 : tie.Need-returns-3
-returns-3 c = join-neither (c .before .before .before .args .x) (c .before .before .before .args .y) (c .before .before .letters-joined .result) (c .before .before .letters-joined .ensures .1) (c .before .before .letters-joined .ensures .0) (search needs) (search needs)
+returns-3 c =
+    let a = c .before .before .before .args in
+    join-neither (a .x) (a .y) (c .before .before .letters-joined .result) (c .before .before .letters-joined .ensures .1) (c .before .before .letters-joined .ensures .0) (search needs) (search needs)
 
 pub joined-spec : {M : Type 1} → statement M
 joined-spec =

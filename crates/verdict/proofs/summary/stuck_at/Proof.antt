@@ -19,7 +19,9 @@ returns-2 : tie.Need-returns-2
 returns-2 c = stuck-without (c .before .before .before .before .args .x) (wordAt (c .before .before .before .before .args .frames .now) (c .before .before .before .before .args .at)) (c .if2 .taken)
 
 returns-3 : tie.Need-returns-3
-returns-3 c = stuck-blank (c .before .before .before .before .before .args .x) (c .before .before .before .stretch .result .now) (c .before .before .if1 .left) (c .before .if2 .left) (c .if3 .taken) ∙ ap (stuck (decode (c .before .before .before .before .before .args .x))) (c .before .before .before .stretch .ensures .0)
+returns-3 c =
+    let a = c .before .before .before .before .before .args in
+    stuck-blank (a .x) (c .before .before .before .stretch .result .now) (c .before .before .if1 .left) (c .before .if2 .left) (c .if3 .taken) ∙ ap (stuck (decode (a .x))) (c .before .before .before .stretch .ensures .0)
 
 shared-slice-read-lettered : tie.Need-shared-slice-read-lettered
 shared-slice-read-lettered c = search needs
@@ -28,10 +30,14 @@ lettered-requires : tie.Need-lettered-requires
 lettered-requires c κs = search needs
 
 returns-4 : tie.Need-returns-4
-returns-4 c = stuck-same (c .before .before .before .before .before .before .before .before .args .x) (c .before .before .before .before .before .before .stretch .result .now) (c .before .before .before .before .before .if1 .left) (c .before .before .before .before .if2 .left) (omega (arith, c .before .before .shared-slice-known2 .given 0)) (c .if4 .taken ∙ c .before .lettered .ensures) ∙ ap (stuck (decode (c .before .before .before .before .before .before .before .before .args .x))) (c .before .before .before .before .before .before .stretch .ensures .0)
+returns-4 c =
+    let a = c .before .before .before .before .before .before .before .before .args in
+    stuck-same (a .x) (c .before .before .before .before .before .before .stretch .result .now) (c .before .before .before .before .before .if1 .left) (c .before .before .before .before .if2 .left) (omega (arith, c .before .before .shared-slice-known2 .given 0)) (c .if4 .taken ∙ c .before .lettered .ensures) ∙ ap (stuck (decode (a .x))) (c .before .before .before .before .before .before .stretch .ensures .0)
 
 returns-5 : tie.Need-returns-5
-returns-5 c = stuck-other (c .before .before .before .before .before .before .before .before .args .x) (c .before .before .before .before .before .before .stretch .result .now) (c .before .before .before .before .before .if1 .left) (c .before .before .before .before .if2 .left) (c .before .before .before .if3 .left) (λ e. c .if4 .left (e ∙ sym (c .before .lettered .ensures))) ∙ ap (stuck (decode (c .before .before .before .before .before .before .before .before .args .x))) (c .before .before .before .before .before .before .stretch .ensures .0)
+returns-5 c =
+    let a = c .before .before .before .before .before .before .before .before .args in
+    stuck-other (a .x) (c .before .before .before .before .before .before .stretch .result .now) (c .before .before .before .before .before .if1 .left) (c .before .before .before .before .if2 .left) (c .before .before .before .if3 .left) (λ e. c .if4 .left (e ∙ sym (c .before .lettered .ensures))) ∙ ap (stuck (decode (a .x))) (c .before .before .before .before .before .before .stretch .ensures .0)
 
 pub stuck-at-spec : {M : Type 1} → statement M
 stuck-at-spec =

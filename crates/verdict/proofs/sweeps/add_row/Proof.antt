@@ -18,7 +18,9 @@ wide-requires : tie.Need-wide-requires
 wide-requires c κs = search needs
 
 returns : tie.Need-returns
-returns c = risen-out (sideOf (c .before .before .before .before .before .args .side)) (rowAt (c .before .before .before .before .before .args .frames .now) (c .before .before .before .before .before .args .at)) (c .before .before .before .before .before .args .values .now) (omega (arith, c .before .wide .ensures .0, c .before .before .byte .ensures))
+returns c =
+    let a = c .before .before .before .before .before .args in
+    risen-out (sideOf (a .side)) (rowAt (a .frames .now) (a .at)) (a .values .now) (omega (arith, c .before .wide .ensures .0, c .before .before .byte .ensures))
 
 mul-old : tie.Need-mul-old
 mul-old c = search needs
@@ -45,13 +47,17 @@ rank-of-requires-2 : tie.Need-rank-of-requires-2
 rank-of-requires-2 c κs = search needs
 
 sub-result : tie.Need-sub-result
-sub-result c = omega (arith, risen-one (sideOf (c .before .before .before .before .before .before .before .before .before .before .before .args .side)) (rowAt (c .before .before .before .before .before .before .before .before .before .before .before .args .frames .now) (c .before .before .before .before .before .before .before .before .before .before .before .args .at)) (c .before .before .before .before .before .before .before .before .before .before .before .args .values .now) (c .before .before .before .before .before .before .before .wide .result) (c .before .before .before .row-value .result) (c .before .before .joined .result) (c .rank-of2 .result) (c .before .rank-of .result) (c .before .before .before .before .before .before .before .wide .ensures .0 ∙ c .before .before .before .before .before .before .before .before .byte .ensures) (omega arith) (c .before .before .before .row-value .ensures) (c .before .before .joined .ensures) (c .before .rank-of .ensures) (c .rank-of2 .ensures) .0)
+sub-result c =
+    let a = c .before .before .before .before .before .before .before .before .before .before .before .args in
+    omega (arith, risen-one (sideOf (a .side)) (rowAt (a .frames .now) (a .at)) (a .values .now) (c .before .before .before .before .before .before .before .wide .result) (c .before .before .before .row-value .result) (c .before .before .joined .result) (c .rank-of2 .result) (c .before .rank-of .result) (c .before .before .before .before .before .before .before .wide .ensures .0 ∙ c .before .before .before .before .before .before .before .before .byte .ensures) (omega arith) (c .before .before .before .row-value .ensures) (c .before .before .joined .ensures) (c .before .rank-of .ensures) (c .rank-of2 .ensures) .0)
 
 same-length : tie.Need-same-length
 same-length c = search needs
 
 returns-2 : tie.Need-returns-2
-returns-2 c = risen-one (sideOf (c .before .before .before .before .before .before .before .before .before .before .before .args .side)) (rowAt (c .before .before .before .before .before .before .before .before .before .before .before .args .frames .now) (c .before .before .before .before .before .before .before .before .before .before .before .args .at)) (c .before .before .before .before .before .before .before .before .before .before .before .args .values .now) (c .before .before .before .before .before .before .before .wide .result) (c .before .before .before .row-value .result) (c .before .before .joined .result) (c .rank-of2 .result) (c .before .rank-of .result) (c .before .before .before .before .before .before .before .wide .ensures .0 ∙ c .before .before .before .before .before .before .before .before .byte .ensures) (omega arith) (c .before .before .before .row-value .ensures) (c .before .before .joined .ensures) (c .before .rank-of .ensures) (c .rank-of2 .ensures) .1
+returns-2 c =
+    let a = c .before .before .before .before .before .before .before .before .before .before .before .args in
+    risen-one (sideOf (a .side)) (rowAt (a .frames .now) (a .at)) (a .values .now) (c .before .before .before .before .before .before .before .wide .result) (c .before .before .before .row-value .result) (c .before .before .joined .result) (c .rank-of2 .result) (c .before .rank-of .result) (c .before .before .before .before .before .before .before .wide .ensures .0 ∙ c .before .before .before .before .before .before .before .before .byte .ensures) (omega arith) (c .before .before .before .row-value .ensures) (c .before .before .joined .ensures) (c .before .rank-of .ensures) (c .rank-of2 .ensures) .1
 
 pub add-row-spec : {M : Type 1} → statement M
 add-row-spec =

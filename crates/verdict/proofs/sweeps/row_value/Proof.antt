@@ -33,13 +33,14 @@ past-requires c κs = search needs
 
 loop-holds : tie.Need-loop-holds Inv-loop μ-loop
 loop-holds c =
-    let F = c .before .before .before .before .before .args .frames .now in
-    let s = sideOf (c .before .before .before .before .before .args .side) in
-    let k = K (c .before .before .before .before .before .args .values .now) in (
+    let a = c .before .before .before .before .before .args in
+    let F = a .frames .now in
+    let s = sideOf (a .side) in
+    let k = K (a .values .now) in (
       c .past .ensures .1,
       ap (λ y. beside s y (along s k (childrenAt F (c .past .result) (c .before .before .kids-at .result)))) (c .before .alone-at .ensures)
-          ∙ ap (λ n. beside s (alone (end s (rowAt F (c .before .before .before .before .before .args .at) .rule .first))) (along s k (childrenAt F n (c .before .before .kids-at .result)))) (c .past .ensures .0)
-          ∙ ap (λ n. beside s (alone (end s (rowAt F (c .before .before .before .before .before .args .at) .rule .first))) (along s k (childrenAt F (pastAt F (c .before .before .before .before .before .args .at + 3)) n))) (c .before .before .kids-at .ensures .0),
+          ∙ ap (λ n. beside s (alone (end s (rowAt F (a .at) .rule .first))) (along s k (childrenAt F n (c .before .before .kids-at .result)))) (c .past .ensures .0)
+          ∙ ap (λ n. beside s (alone (end s (rowAt F (a .at) .rule .first))) (along s k (childrenAt F (pastAt F (a .at + 3)) n))) (c .before .before .kids-at .ensures .0),
     )
 
 with-child-requires : tie.Need-with-child-requires Inv-loop μ-loop
@@ -59,17 +60,22 @@ loop-less c = search needs
 
 loop-again : tie.Need-loop-again Inv-loop μ-loop
 loop-again c =
-    let F = c .before .before .before .before .before .before .before .before .before .args .frames .now in
-    let s = sideOf (c .before .before .before .before .before .before .before .before .before .args .side) in
-    let k = K (c .before .before .before .before .before .before .before .before .before .args .values .now) in (
+    let a = c .before .before .before .before .before .before .before .before .before .args in
+    let l = c .before .before .before .loop in
+    let F = a .frames .now in
+    let s = sideOf (a .side) in
+    let k = K (a .values .now) in (
       c .past2 .ensures .1,
-      ap (λ y. beside s y (along s k (childrenAt F (c .past2 .result) (c .before .before .before .loop .left - 1)))) (c .before .with-child .ensures)
-          ∙ ap (λ n. beside s (withChild s (c .before .before .before .before .before .before .before .before .before .args .values .now) F (c .before .before .before .loop .p) (decode (c .before .before .before .loop .x))) (along s k (childrenAt F n (c .before .before .before .loop .left - 1)))) (c .past2 .ensures .0)
-          ∙ sym (gather-more F (c .before .before .before .loop .p) s (c .before .before .before .before .before .before .before .before .before .args .values .now) (c .before .before .before .loop .left) (c .before .before .loop-test .taken) (decode (c .before .before .before .loop .x))) ∙ c .before .before .before .loop .inv .1,
+      ap (λ y. beside s y (along s k (childrenAt F (c .past2 .result) (l .left - 1)))) (c .before .with-child .ensures)
+          ∙ ap (λ n. beside s (withChild s (a .values .now) F (l .p) (decode (l .x))) (along s k (childrenAt F n (l .left - 1)))) (c .past2 .ensures .0)
+          ∙ sym (gather-more F (l .p) s (a .values .now) (l .left) (c .before .before .loop-test .taken) (decode (l .x))) ∙ l .inv .1,
     )
 
 returns : tie.Need-returns Inv-loop μ-loop
-returns c = gather-none (c .before .before .before .before .before .before .before .args .frames .now) (c .before .loop .p) (sideOf (c .before .before .before .before .before .before .before .args .side)) (c .before .before .before .before .before .before .before .args .values .now) (c .before .loop .left) (omega arith) (decode (c .before .loop .x)) ∙ c .before .loop .inv .1
+returns c =
+    let a = c .before .before .before .before .before .before .before .args in
+    let l = c .before .loop in
+    gather-none (a .frames .now) (l .p) (sideOf (a .side)) (a .values .now) (l .left) (omega arith) (decode (l .x)) ∙ l .inv .1
 
 pub row-value-spec : {M : Type 1} → statement M
 row-value-spec =

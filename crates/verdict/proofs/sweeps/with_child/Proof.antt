@@ -28,7 +28,9 @@ next-to-requires-2 : tie.Need-next-to-requires-2
 next-to-requires-2 c κs = search needs
 
 returns : tie.Need-returns
-returns c = child-made (c .before .before .before .before .before .before .before .before .args .frames .now) (c .before .before .before .before .before .before .before .before .args .at) (sideOf (c .before .before .before .before .before .before .before .before .args .side)) (c .before .before .before .before .before .before .before .before .args .values .now) (decode (c .before .before .before .before .before .before .before .before .args .x)) (decode (c .before .before .next-to .result)) (decode (c .next-to2 .result)) (c .before .before .before .before .wide .result) (c .before .before .before .kept .result) (c .before .alone-at .result) (c .before .before .before .before .wide .ensures .0 ∙ c .before .before .before .before .before .byte .ensures) (c .before .before .before .kept .ensures) (c .before .before .next-to .ensures) (c .before .alone-at .ensures) (c .next-to2 .ensures)
+returns c =
+    let a = c .before .before .before .before .before .before .before .before .args in
+    child-made (a .frames .now) (a .at) (sideOf (a .side)) (a .values .now) (decode (a .x)) (decode (c .before .before .next-to .result)) (decode (c .next-to2 .result)) (c .before .before .before .before .wide .result) (c .before .before .before .kept .result) (c .before .alone-at .result) (c .before .before .before .before .wide .ensures .0 ∙ c .before .before .before .before .before .byte .ensures) (c .before .before .before .kept .ensures) (c .before .before .next-to .ensures) (c .before .alone-at .ensures) (c .next-to2 .ensures)
 
 pub with-child-spec : {M : Type 1} → statement M
 with-child-spec =

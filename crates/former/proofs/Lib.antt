@@ -1,0 +1,3 @@
+-- Laws of judging and forming a table text.
+pub mod Readings
+pub mod Forms

@@ -1,0 +1,2 @@
+-- A text's judgement and form.
+pub mod Formed
