@@ -60,6 +60,14 @@ module _ {F I S : List ℕ} {head : Head} {letters gaps : ℕ} {u v : Word} {M :
       → Answers (into (length R) (given (M .before ++ w ++ M .after))) R R r
   between-short R h e = rw (← output-is) (short-said R (u ++ w ++ v) (length u + letters + length v) output-long h e)
 
+  -- A room that is long enough and has the three in front is answered with their letters and terms.
+  pub between-filled : {r : Found} (R R′ : List ℕ) (gu gv : ℕ) → length u + letters + length v ≤ length R → gu ≡ spaces u → gv ≡ spaces v
+      → r ≡ found.Word (record { length = length u + letters + length v; terms = gu + gaps + gv + 1 }) → R′ ≡ u ++ w ++ v ++ drop (length (u ++ w ++ v)) R
+      → Answers (into (length R) (given (M .before ++ w ++ M .after))) R R′ r
+  between-filled R R′ gu gv h eu ev er e =
+      let g : gu + gaps + gv ≡ spaces (u ++ w ++ v) = omega (arith, output-gaps) in
+      rw (← output-is) (word-said R R′ (u ++ w ++ v) (length u + letters + length v) (gu + gaps + gv) output-long g h er e)
+
   -- In a room that is long enough, u is put at its front, the tree's word written to the front of the part behind it, and v put behind that.
   pub between-fits : {r : Found} {s : Step} (R R₁ R₂ ys : List ℕ) (from gu gv : ℕ) → length u + letters + length v ≤ length R → length R₁ ≡ length R
       → R₁ ≡ take 0 R ++ u ++ drop (0 + length u) R → from ≡ 0 + length u
@@ -72,7 +80,4 @@ module _ {F I S : List ℕ} {head : Head} {letters gaps : ℕ} {u v : Word} {M :
       let x : word M (head .start) t ≡ some w = ap (λ (h : Head). word M (h .start) t) (b .is) ∙ b .says in
       let l : length w ≤ length (take (length R₁ - from) (drop from R₁)) = simp (length-take, length-drop) (omega (arith, b .long)) in
       let y = wrote M t w (b .stands) x l .room in
-      let g : gu + gaps + gv ≡ spaces (u ++ w ++ v) = omega (arith, output-gaps) in
-      rw (← output-is)
-      (word-said R R₂ (u ++ w ++ v) (length u + letters + length v) (gu + gaps + gv) output-long g h er
-      (three-filled R R₁ (putMid from (length R₁ - from) R₁ ys) R₂ ys u w v from e₁ ef y refl (rw (b .long) at e₂)))
+      between-filled R R₂ gu gv h eu ev er (three-filled R R₁ (putMid from (length R₁ - from) R₁ ys) R₂ ys u w v from e₁ ef y refl (rw (b .long) at e₂))

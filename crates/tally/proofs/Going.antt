@@ -2,7 +2,7 @@
 use mathlib.Core.Path.{_≡_, refl, ap, _∙_}
 use mathlib.Core.List.{List, [], _∷_, _++_, append-nil}
 use mathlib.Core.Option.{some}
-use Prim.Native.Nat.{ℕ, suc, _+_, _/_, _%_, _<_}
+use Prim.Native.Nat.{ℕ, suc, _+_, _/_, _%_, _<_, _≤_}
 use native.Mathlib.Omega.{arith}
 use lib.ListN.{length, getD, set, drop}
 use lib.Seq.{drop-cons, drop-length, getD-set-same, getD-set-other}
@@ -24,8 +24,8 @@ pub record Going (F S P : List ℕ) (M : Table) (q : ℕ) (vs : List ℕ) (at le
       → Counted F S P′ M q a b
 
 -- At first one state waits: a tree that is right for it is the whole.
-pub going-first : (F S P : List ℕ) (M : Table) (q : ℕ) → q < 64 → Going F S P M q (q ∷ []) 0 0 0
-going-first F S P M q l = record { whole = λ P′ ts n s g h e a b x y. first P′ ts n s h e a b x y }
+pub going-first : (F S P : List ℕ) (M : Table) (q : ℕ) → q < 64 → length S ≤ 32768 → Going F S P M q (q ∷ []) 0 0 0
+going-first F S P M q l z = record { whole = λ P′ ts n s g h e a b x y. first P′ ts n s h e a b x y }
   where
     first : (P′ : List ℕ) (ts : Forest) (n s : ℕ) → Held F P′ M ts (q ∷ []) 0 n s → S ≡ preorders ts → (a b : ℕ) → a ≡ 0 + n → b ≡ 0 + s → Counted F S P′ M q a b
     first P′ ∅ n s h e a b x y = absurd h
@@ -36,6 +36,7 @@ going-first F S P M q l = record { whole = λ P′ ts n s g h e a b x y. first P
         record {
           tree = t;
           bytes = e ∙ unfold preorders in append-nil _;
+          size = z;
           ranked = h .0 .ranked;
           levels = rw d at (h .0 .levels);
           letters-of = h .0 .letters-of;

@@ -37,7 +37,7 @@ written-there P i a h = go (decLt i (length (set P i a)))
 -- At first q waits.
 pub tallying-first : (I S P : List ℕ) (q : ℕ) (W : List ℕ) → length S ≤ 32768 → length S ≤ length P → length W ≡ 208 → q < 64 → Tallying I S P q W 1 q 0 0
 tallying-first I S P q W s p w l = record {
-  going = λ F M o. going-first F S P M q l;
+  going = λ F M o. going-first F S P M q l s;
   passed = omega arith;
   short = s;
   long = p;

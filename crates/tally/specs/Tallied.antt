@@ -2,7 +2,7 @@
 use mathlib.Core.Path.{_≡_}
 use mathlib.Core.List.{List}
 use mathlib.Core.Option.{some}
-use Prim.Native.Nat.{ℕ, _<_}
+use Prim.Native.Nat.{ℕ, _<_, _≤_}
 use lib.ListN.{length}
 use Rattle.words.specs.Word.{Word, spaces}
 use Rattle.machine.specs.Machine.{Tree, Table, word}
@@ -12,10 +12,11 @@ use Rattle.walk.specs.Plan.{Planned}
 use Rattle.tally.specs.declared.Tally.{Tally}
 use Rattle.tally.specs.declared.Tally.the-variants as tally
 
--- The bytes S are a tree of at most 64 levels over M's symbols, state q has a word on it with so many letters and letters 20, and the plan P names its rules.
+-- The bytes S are a tree of at most 32,768 symbols and 64 levels over M's symbols, state q has a word on it with so many letters and letters 20, and the plan P names its rules.
 pub record Counted (F S P : List ℕ) (M : Table) (q letters gaps : ℕ) : Type 0 where
   pub tree : Tree
   pub bytes : S ≡ preorder tree
+  pub size : length S ≤ 32768
   pub ranked : Ranked (M .arities) tree
   pub levels : Levels tree 64
   pub letters-of : Word

@@ -1,0 +1,59 @@
+-- The word call: the text's refusal, or the word by the opened table. Assumes nothing.
+use mathlib.Core.Path.{_≡_, refl, sym, ap, subst, subst⁻¹, _∙_}
+use mathlib.Core.List.{List}
+use Prim.Native.Nat.{ℕ}
+use lib.ListN.{length}
+use Rattle.words.specs.Word.{Word}
+use Rattle.words.specs.Reply.{Reply, given, refused, _then_}
+use Rattle.machine.specs.Machine.{Table}
+use Rattle.text.specs.Reading.{readTable}
+use Rattle.promises.specs.Room.{into}
+use Rattle.promises.specs.Word.{wordOn, wordInto, wordAnswer}
+use Rattle.layout.specs.Layout.{Opened}
+use Rattle.layout.specs.Leaves.{headOf}
+use Rattle.layout.specs.declared.Head.{Head}
+use Rattle.layout.specs.declared.Refusal.{Refusal}
+use Rattle.table.specs.Opening.{Opens}
+use Rattle.table.specs.declared.Opening.{Opening}
+use Rattle.table.specs.declared.Opening.the-variants as opening
+use Rattle.finder.specs.declared.Found.{Found}
+use Rattle.finder.specs.declared.Found.the-variants as found
+use Rattle.finder.specs.Answer.{Answers}
+use Rattle.finder.proofs.Said.{refused-said}
+use Rattle.fadurinko.specs.Answers.{refusalOf}
+
+-- A reading that was refused, as opening says it.
+opens-no : (F I : List ℕ) (a : Reply Table) (q : Refusal) → Opens F I a (opening.Refused q) → a ≡ refused (q .number) (q .place)
+opens-no F I (given M) q h = absurd h
+opens-no F I (refused n p) q h = cc
+
+-- A reading that was opened, as opening says it.
+opens-yes : (F I : List ℕ) (a : Reply Table) (head : Head) → Opens F I a (opening.Table head) → (M : Table) × (a ≡ given M) × (head ≡ headOf M) × Opened F I M
+opens-yes F I (given M) head h = (M, refl, h .0, h .1)
+opens-yes F I (refused n p) head h = absurd h
+
+-- A text that is refused gives its refusal.
+pub text-answers : {r : Found} (F I text tree R : List ℕ) (o : Opening) (q : Refusal) → Opens F I (readTable text) o → o ≡ opening.Refused q → r ≡ refusalOf o
+    → Answers (wordAnswer text tree (length R)) R R r
+unfolding wordAnswer
+text-answers F I text tree R o q h e er =
+    let n = opens-no F I (readTable text) q (subst (λ (x : Opening). Opens F I (readTable text) x) e h) in
+    refused-said R (q .number) (q .place) (ap (λ (a : Reply Table). into (length R) (a then λ M. wordOn M tree)) n) (er ∙ ap refusalOf e)
+
+-- The opened table's bytes are as many as were lent.
+pub table-bytes : (F I text : List ℕ) (o : Opening) (head : Head) → Opens F I (readTable text) o → o ≡ opening.Table head → 16448 ≡ length F
+table-bytes F I text o head h e = sym (opens-yes F I (readTable text) head (subst (λ (x : Opening). Opens F I (readTable text) x) e h) .3 .bytes)
+
+-- The opened table's entries are as many as were lent.
+pub table-entries : (F I text : List ℕ) (o : Opening) (head : Head) → Opens F I (readTable text) o → o ≡ opening.Table head → 4096 ≡ length I
+table-entries F I text o head h e = sym (opens-yes F I (readTable text) head (subst (λ (x : Opening). Opens F I (readTable text) x) e h) .3 .entries)
+
+-- A text that is a table gives the word by the opened table.
+pub table-answers : {r : Found} (F I text tree R R′ : List ℕ) (o : Opening) (head : Head) → Opens F I (readTable text) o → o ≡ opening.Table head
+    → ((M : Table) → Opened F I M → head ≡ headOf M → Answers (wordInto M tree (length R)) R R′ r)
+    → Answers (wordAnswer text tree (length R)) R R′ r
+unfolding wordAnswer wordInto
+table-answers {r} F I text tree R R′ o head h e found =
+    let y = opens-yes F I (readTable text) head (subst (λ (x : Opening). Opens F I (readTable text) x) e h) in
+    let s = ap (λ (a : Reply Table). into (length R) (a then λ M. wordOn M tree)) (y .1) in
+    subst⁻¹ (λ (a : Reply Word). Answers a R R′ r) s (found (y .0) (y .3) (y .2))

@@ -1,0 +1,3 @@
+-- The public calls' answers.
+pub mod Answers
+pub mod Parts

@@ -1,0 +1,112 @@
+-- The answer for a tree that was counted: 12, or the room that is filled with the words of the initial rule and the tree's word between them. Assumes nothing.
+use mathlib.Core.Path.{_≡_, sym, ap, subst, subst⁻¹, _∙_}
+use mathlib.Core.List.{List, [], _++_, append-nil}
+use Prim.Native.Nat.{ℕ, _+_, _-_, _<_, _≤_}
+use native.Mathlib.Omega.{arith}
+use borrow.Rule.Slice.PartMut.{putMid}
+use lib.ListN.{length, take, drop, length-take, length-drop}
+use Rattle.words.specs.Word.{Word, spaces}
+use Rattle.words.specs.Reply.{Reply, given}
+use Rattle.machine.specs.Machine.{Tree, Table}
+use Rattle.trees.specs.Preorder.{preorder}
+use Rattle.trees.proofs.Whole.{read-complete}
+use Rattle.promises.specs.Room.{into}
+use Rattle.promises.specs.Word.{wordInto}
+use Rattle.layout.specs.Layout.{Opened}
+use Rattle.layout.specs.Leaves.{wordAt, headOf}
+use Rattle.layout.specs.declared.Head.{Head}
+use Rattle.tally.specs.declared.Tally.{Tally}
+use Rattle.tally.specs.declared.Tally.the-variants as tally
+use Rattle.tally.specs.Tallied.{Counted, Tallied}
+use Rattle.pen.specs.Penned.{Due, Penned, Tidy}
+use Rattle.finder.specs.declared.Found.{Found}
+use Rattle.finder.specs.declared.Found.the-variants as found
+use Rattle.finder.specs.Answer.{Answers}
+use Rattle.finder.proofs.Between.{Between, between-short, between-filled}
+use Rattle.finder.proofs.Read.{into-word}
+use Rattle.swift.proofs.Filled.{front-is, three-filled}
+
+-- u and v are the words of the initial rule, and the tree that the bytes S are was counted.
+pub record Ready (F I S P : List ℕ) (head : Head) (letters gaps : ℕ) (u v : Word) (M : Table) : Type 0 where
+  pub opened : Opened F I M
+  pub is : head ≡ headOf M
+  pub counted : Counted F S P M (M .start) letters gaps
+  pub first : u ≡ wordAt F (head .before)
+  pub last : v ≡ wordAt F (head .after)
+
+module _ {F I S P : List ℕ} {head : Head} {letters gaps : ℕ} {u v : Word} {M : Table} (b : Ready F I S P head letters gaps u v M) where
+  -- The tree's word stands between u and v.
+  ready-between : Between F I S head letters gaps u v M (b .counted .tree) (b .counted .letters-of)
+  ready-between =
+      let k = b .counted in
+      record {
+        stands = record {
+          opened = b .opened;
+          ranked = k .ranked;
+          levels = k .levels;
+          behind = [];
+          bytes = k .bytes ∙ sym (append-nil (preorder (k .tree)));
+        };
+        is = b .is;
+        says = k .is;
+        long = k .many;
+        apart = k .gaps-many;
+        first = b .first;
+        last = b .last;
+      }
+
+  -- The definition's answer is that for the three words.
+  ready-answer : {r : Found} (R R′ : List ℕ) → Answers (into (length R) (given (M .before ++ b .counted .letters-of ++ M .after))) R R′ r
+      → Answers (wordInto M S (length R)) R R′ r
+  ready-answer {r} R R′ a =
+      let k = b .counted in
+      let e = read-complete (M .arities) S (k .tree) (k .bytes) (k .ranked) (k .levels) (k .size) in
+      subst⁻¹ (λ (x : Reply Word). Answers x R R′ r) (into-word M S (length R) (k .tree) e (k .letters-of) (k .is)) a
+
+  -- A room that is too short is refused with the length of the three.
+  pub ready-short : {r : Found} (R : List ℕ) → length R < length u + letters + length v
+      → r ≡ found.Refused (record { number = 12; place = length u + letters + length v }) → Answers (wordInto M S (length R)) R R r
+  ready-short R h e = ready-answer R R (between-short ready-between R h e)
+
+  -- Writing by the plan is due.
+  ready-due : (room : ℕ) → letters ≤ room → Due F P 0 64 room M (M .start) (b .counted .tree) (b .counted .letters-of)
+  ready-due room h =
+      let k = b .counted in
+      let s : length (preorder (k .tree)) ≤ 32768 = rw (k .bytes) at (k .size) in
+      record {
+        bytes = b .opened .bytes;
+        planned = k .planned;
+        levels = k .levels;
+        inside = omega arith;
+        word = k .is;
+        fits = omega (arith, k .many);
+      }
+
+  -- In a room that is long enough, u is put at its front, the tree's word written to the part behind it that has its length, and v put behind that.
+  pub ready-fits : {r : Found} {s : ℕ} (R R₁ R₂ ys : List ℕ) (from gu gv : ℕ) → length u + letters + length v ≤ length R → length R₁ ≡ length R
+      → R₁ ≡ take 0 R ++ u ++ drop (0 + length u) R → from ≡ 0 + length u
+      → ((M : Table) (q : ℕ) (t : Tree) (w : Word) → Due F P 0 64 (length (take (from + letters - from) (drop from R₁))) M q t w → Penned w 0 (length (preorder t)) ys s)
+      → Tidy (take (from + letters - from) (drop from R₁)) ys s
+      → (let B = putMid from (from + letters - from) R₁ ys in R₂ ≡ take (from + letters) B ++ v ++ drop (from + letters + length v) B)
+      → gu ≡ spaces u → gv ≡ spaces v → r ≡ found.Word (record { length = length u + letters + length v; terms = gu + gaps + gv + 1 })
+      → Answers (wordInto M S (length R)) R R₂ r
+  ready-fits R R₁ R₂ ys from gu gv h k e₁ ef wrote tidy e₂ eu ev er =
+      let w : Word = b .counted .letters-of in
+      let n : ℕ = from + letters - from in
+      let l : length (take n (drop from R₁)) ≡ letters = simp (length-take, length-drop) (omega arith) in
+      let m : n ≡ length w = omega (arith, b .counted .many) in
+      let p = wrote M (M .start) (b .counted .tree) w (ready-due (length (take n (drop from R₁))) (omega arith)) .front in
+      let y : ys ≡ w = front-is ys w (omega (arith, tidy .long, b .counted .many)) p in
+      let B : List ℕ = putMid from n R₁ ys in
+      let z : R₂ ≡ take (from + length w) B ++ v ++ drop (from + length w + length v) B =
+      subst (λ (x : ℕ). R₂ ≡ take (from + x) B ++ v ++ drop (from + x + length v) B) (b .counted .many) e₂ in
+      ready-answer R R₂
+      (between-filled ready-between R R₂ gu gv h eu ev er
+      (three-filled R R₁ B R₂ u w v from n e₁ ef m
+      (ap (λ (x : List ℕ). take from R₁ ++ (x ++ drop n (drop from R₁))) y) z))
+
+-- What a tally that counted says, from the initial state on.
+pub tally-counted : {F S P : List ℕ} {M : Table} {head : Head} {r : Tally} (letters gaps : ℕ) → Tallied F S P M (head .start) r → r ≡ tally.Counted letters gaps
+    → head ≡ headOf M → Counted F S P M (M .start) letters gaps
+tally-counted {F} {S} {P} {M} {head} {r} letters gaps h e i =
+    subst (λ (x : Head). Counted F S P M (x .start) letters gaps) i (subst (λ (x : Tally). Tallied F S P M (head .start) x) e h)

@@ -1,0 +1,118 @@
+-- `write` meets its contract: 12 with the length of the three words, or the room filled with them. Assumes nothing.
+use mathlib.Core.Path.{refl}
+use Rattle.swift.proofs.Ready.{ready-short, ready-fits}
+use borrow.Author.Needs.{needs}
+use Rattle.swift.proofs.write.Statement.{statement}
+use Rattle.swift.proofs.write.Tie as tie
+
+stretch-requires : tie.Need-stretch-requires
+stretch-requires c κs = search needs
+
+stretch-requires-2 : tie.Need-stretch-requires-2
+stretch-requires-2 c κs = search needs
+
+add-length : tie.Need-add-length
+add-length c = search needs
+
+add-length-2 : tie.Need-add-length-2
+add-length-2 c = search needs
+
+returns : tie.Need-returns
+returns c =
+    let words = c .before in
+    λ I S M o e k.
+    ready-short
+    (record { opened = o; is = e; counted = k; first = words .before .stretch .ensures .0; last = words .stretch2 .ensures .0 })
+    (words .before .before .before .before .args .room .now)
+    (c .if1 .taken)
+    refl
+
+gaps-of-requires : tie.Need-gaps-of-requires
+gaps-of-requires c κs = search needs
+
+add-spaces : tie.Need-add-spaces
+add-spaces c = search needs
+
+gaps-of-requires-2 : tie.Need-gaps-of-requires-2
+gaps-of-requires-2 c κs = search needs
+
+add-spaces-2 : tie.Need-add-spaces-2
+add-spaces-2 c = search needs
+
+put-requires : tie.Need-put-requires
+put-requires c κs = search needs
+
+add-end : tie.Need-add-end
+add-end c = search needs
+
+sub-eval : tie.Need-sub-eval
+sub-eval c = search needs
+
+part-eval-start : tie.Need-part-eval-start
+part-eval-start c = search needs
+
+part-eval-end : tie.Need-part-eval-end
+part-eval-end c = search needs
+
+eval-requires : tie.Need-eval-requires
+eval-requires c κs = search needs
+
+put-requires-2 : tie.Need-put-requires-2
+put-requires-2 c κs = search needs
+
+add-terms : tie.Need-add-terms
+add-terms c = search needs
+
+same-length : tie.Need-same-length
+same-length c = search needs
+
+returns-2 : tie.Need-returns-2
+returns-2 c =
+    let written = c .before .before .before .before .before .before in
+    let begun = written .before .before .before .before in
+    let counted = begun .before .before in
+    let words = counted .before .before .before in
+    λ I S M o e k.
+    ready-fits
+    (record { opened = o; is = e; counted = k; first = words .before .stretch .ensures .0; last = words .stretch2 .ensures .0 })
+    (words .before .before .before .before .args .room .now)
+    (begun .put .last .1 .0)
+    (c .before .before .put2 .last .1 .0)
+    (written .eval .last .1 .1 .1 .1 .0)
+    (begun .put .result)
+    (counted .before .gaps-of .result)
+    (counted .gaps-of2 .result)
+    (counted .before .before .if1 .left)
+    (begun .put .kept .1 .0)
+    (begun .put .ensures .1)
+    (begun .put .ensures .0)
+    (written .eval .ensures .0)
+    (written .eval .ensures .1)
+    (c .before .before .put2 .ensures .1)
+    (counted .before .gaps-of .ensures .0)
+    (counted .gaps-of2 .ensures .0)
+    refl
+
+pub write-spec : {M : Type 1} → statement M
+write-spec =
+    tie.close
+    (tie.spec
+    stretch-requires
+    stretch-requires-2
+    add-length
+    add-length-2
+    returns
+    gaps-of-requires
+    add-spaces
+    gaps-of-requires-2
+    add-spaces-2
+    put-requires
+    add-end
+    sub-eval
+    part-eval-start
+    part-eval-end
+    eval-requires
+    put-requires-2
+    add-terms
+    same-length
+    returns-2)

@@ -1,0 +1,73 @@
+// The word call on an opened table, fast: one measuring loop that leaves a plan, and the writing
+// pass by the plan. Anything unusual goes to the finder, which tells number and place.
+use finder::Found;
+use finder::Letters;
+use layout::Head;
+use layout::Refusal;
+use tally::Tally;
+ghost use mathlib.Core.Path.{_≡_};
+ghost use mathlib.Core.List.{List};
+ghost use Prim.Native.Nat.{ℕ, _≤_};
+ghost use lib.ListN.{length};
+ghost use Rattle.machine.specs.Machine.{Table};
+ghost use Rattle.layout.specs.Layout.{Opened};
+ghost use Rattle.layout.specs.Leaves.{headOf};
+ghost use Rattle.promises.specs.Word.{wordInto};
+ghost use Rattle.finder.specs.Answer.{Answers};
+ghost use Rattle.tally.specs.Tallied.{Counted};
+
+// Writes the word of a tree that was counted, between the words of the initial rule: 12 with the
+// length needed where the room is too short.
+fn write(
+    frames: &[u8; 16448],
+    head: Head,
+    plan: &[u32; 32768],
+    letters: usize,
+    gaps: usize,
+    room: &mut [u8],
+) -> Found
+    requires { ⌜ (letters ≤ 8388608) × (gaps ≤ 8388608) ⌝ }
+    ensures { λ r. ⌜ ((I S : List ℕ) (M : Table) → Opened (now (frames .entry)) I M → head ≡ headOf M
+        → Counted (now (frames .entry)) S (now (plan .entry)) M (M .start) letters gaps
+        → Answers (wordInto M S (length (now (room .entry)))) (now (room .entry)) (now (room .exit)) r) ⌝ }
+{
+    let bytes: &[u8] = frames;
+    let before = layout::stretch(bytes, head.before);
+    let after = layout::stretch(bytes, head.after);
+    let length = before.len() + letters + after.len();
+    if room.len() < length {
+        return Found::Refused(Refusal {
+            number: 12,
+            place: length,
+        });
+    }
+    let spaces = fields::gaps_of(before) + gaps + fields::gaps_of(after);
+    let from = walk::put(before, room, 0);
+    let end = from + letters;
+    pen::eval(64, plan, frames, 0, &mut room[from..end]);
+    walk::put(after, room, end);
+    let terms = spaces + 1;
+    Found::Word(Letters { length, terms })
+}
+
+// The word of a tree by an opened table, written to the front of the room, or the refusal.
+pub fn find(
+    frames: &[u8; 16448],
+    index: &[u64; 4096],
+    head: Head,
+    tree: &[u8],
+    plan: &mut [u32; 32768],
+    room: &mut [u8],
+) -> Found
+    ensures { λ r. ⌜ ((M : Table) → Opened (now (frames .entry)) (now (index .entry)) M → head ≡ headOf M
+        → Answers (wordInto M (now (tree .entry)) (length (now (room .entry)))) (now (room .entry)) (now (room .exit)) r) ⌝ }
+{
+    let counted = tally::measure(index, tree, plan, head.start);
+    let Tally::Counted { letters, gaps } = counted else {
+        return finder::find(frames, index, head, tree, room);
+    };
+    if 8388608 < letters || 8388608 < gaps {
+        return finder::find(frames, index, head, tree, room);
+    }
+    write(frames, head, plan, letters, gaps, room)
+}

@@ -1,0 +1,2 @@
+-- What opening a table keeps of what it is lent.
+mod Kept

@@ -1,0 +1,12 @@
+-- `long_room` has the length that its type says. Assumes nothing.
+use Prim.Native.Nat.{ℕ}
+use mathlib.Core.Path.{sym}
+use lib.ListN.{length-replicate}
+use Rattle.word.proofs.long_room.Statement.{statement}
+use Rattle.word.proofs.long_room.Tie as tie
+
+returns : tie.Need-returns
+returns c = sym (length-replicate {A = ℕ} 5242944 0)
+
+pub long-room-spec : {M : Type 1} → statement M
+long-room-spec = tie.close (tie.spec returns)
