@@ -1,0 +1,87 @@
+-- Demand 3 as theorems about texts.
+use mathlib.Core.Path.{_≡_, refl, sym, ap, subst, _∙_}
+use mathlib.Core.List.{List}
+use mathlib.Core.Logic.{_↔_}
+use mathlib.Core.Option.{none}
+use Prim.Native.Nat.{ℕ, _≤_}
+use lib.ListN.{length}
+use Rattle.words.specs.Reply.{Reply, given, refused}
+use Rattle.machine.specs.Machine.{Table, WellMade}
+use Rattle.machine.specs.Earliest.{Earliest}
+use Rattle.machine.specs.Verdict.{earliest}
+use Rattle.machine.specs.Same.{Agree}
+use Rattle.machine.specs.Form.{IsForm}
+use Rattle.machine.proofs.Judged.{judged-earliest}
+use Rattle.normal.proofs.Forms.{forms-agree, forms-words, forms-arities, isForm-agrees, isForm-earliest, form-of-form}
+use Rattle.text.specs.Reading.{readTable}
+use Rattle.text.specs.Writing.{writeTable, Limited}
+use Rattle.text.proofs.Back.{write-read, read-limited}
+use Rattle.text.proofs.Forth.{read-write}
+use Rattle.text.proofs.RoundTrip.{write-injective, given-injective}
+use Rattle.canon.proofs.Short.{form-short, form-limited}
+use Rattle.promises.specs.Form.{FormOfText, FormText}
+use Rattle.promises.specs.Comparison.{Comparison, same, different, parting, Forms, ComparisonAnswer}
+use Rattle.demands.proofs.Judgement.{judged-as}
+
+-- What a text's form says of the table M that the text is read as.
+pub record Formed (text : List ℕ) (M F : Table) : Type 0 where
+  pub limited : Limited M
+  pub earliest-table : Earliest M
+  pub is : IsForm M F
+  pub form-limits : Limited F
+
+pub formed : (text : List ℕ) (M F : Table) → readTable text ≡ given M → FormOfText text F → Formed text M F
+formed text M F e o =
+    let i : o .table ≡ M = given-injective (o .table) M (sym (o .read) ∙ e) in
+    let f : IsForm M F = subst (λ (x : Table). IsForm x F) i (o .form) in
+    let l : Limited M = read-limited text M e in
+    record {
+      limited = l;
+      earliest-table = judged-earliest M .0 (judged-as text M earliest e (o .judged));
+      is = f;
+      form-limits = subst (λ (x : Table). Limited x) (sym (f .form)) (form-limited (f .same) M l (f .decides));
+    }
+
+-- (a) The form's text is read as an earliest table, which gives every finite tree what the original gives it.
+pub form-earliest-same : (text out : List ℕ) (M : Table) → readTable text ≡ given M → FormText text (given out) → (F : Table) × (readTable out ≡ given F) × Earliest F × Agree F M
+form-earliest-same text out M e h =
+    let d = formed text M (h .0) e (h .1) in
+    (h .0, ap readTable (h .2) ∙ read-write (h .0) (d .form-limits), isForm-earliest M (h .0) (d .limited .made) (d .is) (d .earliest-table), isForm-agrees M (h .0) (d .limited .made) (d .is))
+
+-- (b) For two earliest texts with one symbol list the forms are byte for byte the same exactly when the tables give every finite tree the same word, or both none.
+pub forms-same-words : (first second out out′ : List ℕ) (M N : Table) → readTable first ≡ given M → readTable second ≡ given N → M .arities ≡ N .arities
+    → FormText first (given out) → FormText second (given out′) → (out ≡ out′) ↔ Agree M N
+forms-same-words first second out out′ M N e e′ a h k =
+    let d = formed first M (h .0) e (h .1) in
+    let d′ = formed second N (k .0) e′ (k .1) in
+    let both = forms-agree M N (h .0) (k .0) (d .limited .made) (d′ .limited .made) (d .is) (d′ .is) (d .earliest-table) (d′ .earliest-table) a in
+    (λ i. both .0 (write-injective (h .0) (k .0) (d .form-limits) (d′ .form-limits) (sym (h .2) ∙ i ∙ k .2)), λ g. h .2 ∙ ap writeTable (both .1 g) ∙ sym (k .2))
+
+-- "Same" is told only of tables that have one symbol list and agree on every finite tree.
+pub same-words : (first second : List ℕ) (M N : Table) → readTable first ≡ given M → readTable second ≡ given N → ComparisonAnswer first second same → (M .arities ≡ N .arities) × Agree M N
+same-words first second M N e e′ h =
+    let d = formed first M (h .0) e (h .1 .one) in
+    let d′ = formed second N (h .0) e′ (h .1 .two) in
+    (forms-arities M N (h .0) (h .0) (d .limited .made) (d′ .limited .made) (d .is) (d′ .is) refl, forms-words M N (h .0) (h .0) (d .limited .made) (d′ .limited .made) (d .is) (d′ .is) refl)
+
+-- "Different" is told only of tables that do not agree on every finite tree.
+pub different-words : (first second : List ℕ) (M N : Table) → readTable first ≡ given M → readTable second ≡ given N → M .arities ≡ N .arities → ComparisonAnswer first second different → Agree M N → ⊥
+different-words first second M N e e′ a h g =
+    let d = formed first M (h .0) e (h .2 .one) in
+    let d′ = formed second N (h .1) e′ (h .2 .two) in
+    h .4 (forms-agree M N (h .0) (h .1) (d .limited .made) (d′ .limited .made) (d .is) (d′ .is) (d .earliest-table) (d′ .earliest-table) a .1 g)
+
+-- The form is never longer than the table's text.
+pub form-not-longer : (text out : List ℕ) (M : Table) → readTable text ≡ given M → FormText text (given out) → length out ≤ length text
+form-not-longer text out M e h =
+    let d = formed text M (h .0) e (h .1) in
+    let f = d .is in
+    rw (h .2, write-read text M e, f .form) (form-short (f .same) M (d .limited .made) (f .decides))
+
+-- The form of a form is the form.
+pub form-of-form-text : (text out again : List ℕ) (M : Table) → readTable text ≡ given M → FormText text (given out) → FormText out (given again) → again ≡ out
+form-of-form-text text out again M e h k =
+    let d = formed text M (h .0) e (h .1) in
+    let i : readTable out ≡ given (h .0) = ap readTable (h .2) ∙ read-write (h .0) (d .form-limits) in
+    let d′ = formed out (h .0) (k .0) i (k .1) in
+    k .2 ∙ ap writeTable (form-of-form M (h .0) (k .0) (d .limited .made) (d .earliest-table) (d .is) (d′ .is)) ∙ sym (h .2)
