@@ -105,7 +105,7 @@ fn take_all(
     now
 }
 
-// Reads a piece of the input and takes it.
+// Reads a piece of the input and takes it. Where the input cannot be read, the line so far is dropped.
 fn read_some(
     state: State,
     opening: Opening,
@@ -119,7 +119,12 @@ fn read_some(
     let got = libc::read(libc::STDIN_FILENO, piece);
     if got < 0 {
         os::fail(&[b's', b't', b'd', b'i', b'n']);
-        return Step { state, more: false };
+        let used = state.used;
+        let line = line::start();
+        return Step {
+            state: State { line, used },
+            more: false,
+        };
     }
     let n = io::count(got, piece);
     if n == 0 {
