@@ -1,8 +1,9 @@
 -- The three demands, and where each is proved. A reviewer reads this page first.
 --
 -- 1. Every call comes to an end with an answer or one numbered refusal and its place; a refused call leaves the lent room unchanged.
---    No public call of crate fadurinko has a `requires`, and each contract gives one answer for every input: `word` and `form` by equations for the
---    answer and the room (crates finder and former, `Answers`), `judge` and `compare` by relations of which two answers are equal (Judgement.judgement-one).
+--    No public call of crate fadurinko has a `requires`. `word` is settled by equations for the answer and the room (crate finder, `Answers`); `form` by the
+--    same equations for an answer of its definition (crate former, `Answers`); `judge` and `compare` by their definitions. Two judgements of one text are
+--    equal: Judgement.judgement-one. That two answers of `form` or of `compare` are equal is not a law of its own yet.
 --    Reading is a function, `readTable`; a refusal has number 1 to 5 and a place within the text: crate text, Refusals.read-refused.
 --
 -- 2. The word is the published one: Words.word-published. A tree is turned down exactly for the listed causes: crate trees, Refusals.read-refused, and
