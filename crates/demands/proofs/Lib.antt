@@ -2,8 +2,8 @@
 --
 -- 1. Every call comes to an end with an answer or one numbered refusal and its place; a refused call leaves the lent room unchanged.
 --    No public call of crate fadurinko has a `requires`. `word` is settled by equations for the answer and the room (crate finder, `Answers`); `form` by the
---    same equations for an answer of its definition (crate former, `Answers`); `judge` and `compare` by their definitions. Two judgements of one text are
---    equal: Judgement.judgement-one. That two answers of `form` or of `compare` are equal is not a law of its own yet.
+--    same equations for an answer of its definition (crate former, `Answers`); `judge` and `compare` by their definitions, which are relations. Two answers
+--    that these allow are equal: Judgement.judgement-one for a text, Settled.form-one for a text and so much room, Settled.comparison-one for two texts.
 --    Reading is a function, `readTable`; a refusal has number 1 to 5 and a place within the text: crate text, Refusals.read-refused.
 --
 -- 2. The word is the published one: Words.word-published. A tree is turned down exactly for the listed causes: crate trees, Refusals.read-refused, and
@@ -16,4 +16,5 @@
 --    Behind these: Theorem A in crate machine, Agreement.agree; the form as mathematics in crate normal, Forms.forms-agree.
 pub mod Words
 pub mod Judgement
+pub mod Settled
 pub mod Forms
