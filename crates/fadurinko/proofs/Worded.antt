@@ -40,14 +40,6 @@ text-answers F I text tree R o q h e er =
     let n = opens-no F I (readTable text) q (subst (λ (x : Opening). Opens F I (readTable text) x) e h) in
     refused-said R (q .number) (q .place) (ap (λ (a : Reply Table). into (length R) (a then λ M. wordOn M tree)) n) (er ∙ ap refusalOf e)
 
--- The opened table's bytes are as many as were lent.
-pub table-bytes : (F I text : List ℕ) (o : Opening) (head : Head) → Opens F I (readTable text) o → o ≡ opening.Table head → 16448 ≡ length F
-table-bytes F I text o head h e = sym (opens-yes F I (readTable text) head (subst (λ (x : Opening). Opens F I (readTable text) x) e h) .3 .bytes)
-
--- The opened table's entries are as many as were lent.
-pub table-entries : (F I text : List ℕ) (o : Opening) (head : Head) → Opens F I (readTable text) o → o ≡ opening.Table head → 4096 ≡ length I
-table-entries F I text o head h e = sym (opens-yes F I (readTable text) head (subst (λ (x : Opening). Opens F I (readTable text) x) e h) .3 .entries)
-
 -- A text that is a table gives the word by the opened table.
 pub table-answers : {r : Found} (F I text tree R R′ : List ℕ) (o : Opening) (head : Head) → Opens F I (readTable text) o → o ≡ opening.Table head
     → ((M : Table) → Opened F I M → head ≡ headOf M → Answers (wordInto M tree (length R)) R R′ r)

@@ -56,7 +56,8 @@ pub fn word(text: &[u8], tree: &[u8], room: &mut [u8]) -> Found
     let Opening::Table(head) = opening else {
         return refused(opening);
     };
-    finder::find(&frames, &index, head, tree, room)
+    let mut plan = [0u32; 32768];
+    swift::find(&frames, &index, head, tree, &mut plan, room)
 }
 
 // The judgement of a table text.

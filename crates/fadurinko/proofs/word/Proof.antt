@@ -1,5 +1,5 @@
 -- `word` meets its contract: the text's refusal, or the word by the opened table. Assumes nothing.
-use Rattle.fadurinko.proofs.Worded.{text-answers, table-bytes, table-entries, table-answers}
+use Rattle.fadurinko.proofs.Worded.{text-answers, table-answers}
 use borrow.Author.Needs.{needs}
 use Rattle.fadurinko.proofs.word.Statement.{statement}
 use Rattle.fadurinko.proofs.word.Tie as tie
@@ -32,16 +32,6 @@ returns c =
     (c .before .enum-told .given .1)
     (c .refused .ensures)
 
-slice-aggregate-find : tie.Need-slice-aggregate-find
-slice-aggregate-find c =
-    let o = c .before .before .before .before .«open» in
-    table-bytes (o .last .1 .0) (o .last .1 .1 .0) (c .before .before .before .before .before .before .before .before .before .before .args .text .now) (o .result) _ (o .ensures .0) (c .before .before .opening .given .1)
-
-slice-aggregate-find-2 : tie.Need-slice-aggregate-find-2
-slice-aggregate-find-2 c =
-    let o = c .before .before .before .before .before .«open» in
-    table-entries (o .last .1 .0) (o .last .1 .1 .0) (c .before .before .before .before .before .before .before .before .before .before .before .args .text .now) (o .result) _ (o .ensures .0) (c .before .before .before .opening .given .1)
-
 find-requires : tie.Need-find-requires
 find-requires c κs = search needs
 
@@ -50,19 +40,19 @@ same-length c = search needs
 
 returns-2 : tie.Need-returns-2
 returns-2 c =
-    let o = c .before .before .before .before .before .before .before .before .before .«open» in
-    let a = c .before .before .before .before .before .before .before .before .before .before .before .before .before .before .before .args in
+    let o = c .before .before .before .before .before .before .before .before .before .before .«open» in
+    let a = c .before .before .before .before .before .before .before .before .before .before .before .before .before .before .before .before .args in
     table-answers
     (o .last .1 .0)
     (o .last .1 .1 .0)
     (a .text .now)
     (a .tree .now)
     (a .room .now)
-    (c .before .before .find .last .1 .1 .1 .1 .0)
+    (c .before .before .find .last .1 .1 .1 .1 .1 .0)
     (o .result)
     _
     (o .ensures .0)
-    (c .before .before .before .before .before .before .before .opening .given .1)
+    (c .before .before .before .before .before .before .before .before .opening .given .1)
     (c .before .before .find .ensures)
 
 pub word-spec : {M : Type 1} → statement M
@@ -74,8 +64,6 @@ word-spec =
     enum-told
     refused-requires
     returns
-    slice-aggregate-find
-    slice-aggregate-find-2
     find-requires
     same-length
     returns-2)
