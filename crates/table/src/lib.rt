@@ -53,7 +53,7 @@ fn read_lines(text: &[u8], bytes: &mut [u8], index: &mut [u64]) -> Opening
     let mut at = 0;
     while at < text.len() {
         let used = st.used;
-        let line = lines::take_line(text, at, bytes, used);
+        let line = reader::next_line(text, at, bytes, used);
         let Line::Whole { bytes: n, next } = line else {
             return refuse(2, at);
         };

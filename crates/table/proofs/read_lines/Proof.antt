@@ -26,8 +26,8 @@ loop-holds c =
     let p = c .before .before .before .before .pre in
     going-begin _ _ _ _ (p .0 .0) (p .0 .1) (p .1 .0) (p .1 .1) (p .1 .2) (c .start .ensures .0 _ _ (p .1 .3)) (c .start .ensures .1)
 
-take-line-requires : tie.Need-take-line-requires Inv-loop μ-loop
-take-line-requires c κs =
+next-line-requires : tie.Need-next-line-requires Inv-loop μ-loop
+next-line-requires c κs =
     let g = c .before .before .loop .inv in
     ((g .inside, c .before .before .before .before .before .before .before .pre .0 .1), (g .room, omega (arith, g .bytes)))
 
@@ -43,10 +43,10 @@ refuse-requires c κs = search needs
 -- The line is bad, and the bytes that are used are as they were.
 spoiled : (k : tie.After-enum-told Inv-loop μ-loop) →
     let l = k .before .before .before .before .before .before .before .loop in
-    (scan (drop (l .at) (k .before .before .before .before .before .before .before .before .before .before .before .before .args .text .now)) ≡ bad) × Kept (l .st .used) (l .bytes) (k .before .before .before .before .take-line .last .1 .1 .0)
+    (scan (drop (l .at) (k .before .before .before .before .before .before .before .before .before .before .before .before .args .text .now)) ≡ bad) × Kept (l .st .used) (l .bytes) (k .before .before .before .before .next-line .last .1 .1 .0)
 spoiled k =
     let l = k .before .before .before .before .before .before .before .loop in
-    let t = k .before .before .before .before .take-line in
+    let t = k .before .before .before .before .next-line in
     bad-taken (k .before .before .before .before .before .before .before .before .before .before .before .before .args .text .now) _ (l .at) (l .st .used) (l .bytes) (t .last .1 .1 .0) (t .result) (k .enum-told .given .1) (t .ensures)
 
 same-length : tie.Need-same-length Inv-loop μ-loop
@@ -67,9 +67,9 @@ returns c =
 taken : (k : tie.After-known-told Inv-loop μ-loop) →
     let l = k .before .before .before .before .before .before .before .before .loop in
     let a = k .before .before .before .before .before .before .before .before .before .before .before .before .before .args in
-    IsWhole (a .text .now) (scan (drop (l .at) (a .text .now))) (l .at) (l .st .used) (k .before .line .given .0 .0) (k .before .line .given .0 .1 .0) (l .bytes) (k .before .before .before .before .before .take-line .last .1 .1 .0)
+    IsWhole (a .text .now) (scan (drop (l .at) (a .text .now))) (l .at) (l .st .used) (k .before .line .given .0 .0) (k .before .line .given .0 .1 .0) (l .bytes) (k .before .before .before .before .before .next-line .last .1 .1 .0)
 taken k =
-    let t = k .before .before .before .before .before .take-line in
+    let t = k .before .before .before .before .before .next-line in
     whole-taken _ _ _ _ _ _ _ _ (t .result) (k .before .line .given .1) (t .ensures)
 
 step-requires : tie.Need-step-requires Inv-loop μ-loop
@@ -151,7 +151,7 @@ read-lines-spec =
     μ-loop
     start-requires
     loop-holds
-    take-line-requires
+    next-line-requires
     enum-known-line
     enum-told
     refuse-requires

@@ -1,0 +1,2 @@
+-- Laws for the walks of the reader's functions.
+mod Clauses

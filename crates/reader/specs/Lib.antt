@@ -1,0 +1,2 @@
+-- A reader of a table text.
+pub mod Ahead
