@@ -8,12 +8,12 @@ use lib.Seq.{slice, length-take-le}
 use Rattle.machine.specs.Machine.{Table}
 use Rattle.text.specs.Frames as text
 use Rattle.layout.specs.Layout.{rowFrames, headFrames, framesOf}
-use Rattle.fields.proofs.Slices.{slice-none, slice-byte}
+use Rattle.fields.proofs.Slices.{slice-none}
 use Rattle.frames.specs.Staged.{AtRules, Stepped}
 use Rattle.frames.specs.declared.Stage.{Stage}
 use Rattle.frames.specs.declared.Next.the-variants as next
 use Rattle.frames.proofs.RuleBytes.{frames-more}
-use Rattle.frames.proofs.RuleStage.{stepped-over, stepped-next}
+use Rattle.frames.proofs.StepFrames.{stepped-left, stepped-ready}
 
 -- The stage behind the end.
 abbrev pub behindEnd : Stage → ℕ → Stage
@@ -22,7 +22,7 @@ behindEnd st end = record { phase = 2; head = st .head; last = st .last; used = 
 module _ {F I : List ℕ} {st : Stage} {M : Table} (a : AtRules F I st M) (at end : ℕ) where
   -- Bytes are left over.
   pub end-over : at < end → end ≤ length F → Stepped F I (text.whole (text.endFrame M (slice at end F))) (next.Wrong 5)
-  end-over h l = stepped-over F I _ _ (getD F at 0) (slice (at + 1) end F) (slice at end F) refl (slice-byte F at end _ h l refl)
+  end-over h l = stepped-left F I _ _ at end refl h l
 
   module _ (whole : end ≤ at) (next-to : at ≡ st .used + 1) (start : at ≤ end) (inside : end ≤ length F) (kind : getD F (st .used) 0 ≡ 4) where
     -- No byte is left over.
@@ -38,10 +38,10 @@ module _ {F I : List ℕ} {st : Stage} {M : Table} (a : AtRules F I st M) (at en
 
     -- The stage behind the end.
     pub end-next : Stepped F I (text.whole (text.endFrame M (slice at end F))) (next.Ready (behindEnd st end))
-    end-next = stepped-next F I _ _ _ (slice at end F) refl nothing-left (record {
+    end-next = stepped-ready F I _ _ at end refl _ _ start whole (record {
       phase = refl;
       head = a .numbers .head;
       used = sym (length-take-le end F inside) ∙ ap length frames-all;
       frames = frames-all;
       index = a .index;
-    })
+    }) refl

@@ -12,16 +12,18 @@ use Rattle.text.proofs.Fields.{then-got, below-inv}
 use Rattle.text.proofs.Faults.{then-fault}
 use Rattle.layout.specs.Layout.{rowFrames, headFrames, entryOf, Indexed}
 use Rattle.layout.proofs.Growing.{indexed-more}
-use Rattle.fields.proofs.Slices.{slice-none, slice-byte}
+use Rattle.fields.proofs.Slices.{slice-none}
 use Rattle.fields.proofs.Numbers.{IsNumber}
-use Rattle.frames.specs.Staged.{AtRules, Stepped, ruleField}
+use Rattle.frames.specs.Staged.{AtRules, Stepped, ruleField, behindRule}
 use Rattle.frames.specs.declared.Stage.{Stage}
+use Rattle.frames.specs.declared.Next.{Next}
 use Rattle.frames.specs.declared.Next.the-variants as next
+use Rattle.frames.proofs.StepFrames.{stepped-left, stepped-ready}
 use Rattle.frames.proofs.RuleFields.{IsRule}
 use Rattle.frames.proofs.RuleKeys.{rises-true, rises-false, before-none}
 use Rattle.frames.proofs.RuleBytes.{row-bytes, frames-more, arity-there, most-at}
 use Rattle.frames.proofs.RuleSteps.{withRule, rule-full, state-refused, symbol-refused, order-refused, fields-decide}
-use Rattle.frames.proofs.RuleStage.{stepped-over, stepped-next, behindRule, head-frames, numbers-more, rows-frames}
+use Rattle.frames.proofs.RuleStage.{head-frames, numbers-more, rows-frames}
 
 module _ {F I : List ℕ} {st : Stage} {M : Table} (a : AtRules F I st M) (at end : ℕ) where
   -- The table's numbers are those of the head.
@@ -105,7 +107,7 @@ module _ {F I : List ℕ} {st : Stage} {M : Table} (a : AtRules F I st M) (at en
 
             -- Bytes are left over.
             pub rule-over : (J : List ℕ) → then < end → end ≤ length F → Stepped F J (text.whole (text.ruleFrame M (slice at end F))) (next.Wrong 5)
-            rule-over J h l = stepped-over F J _ _ (getD F then 0) (slice (then + 1) end F) (slice then end F) taken (slice-byte F then end _ h l refl)
+            rule-over J h l = stepped-left F J _ _ then end taken h l
 
             module _ (whole : end ≤ then) (next-to : at ≡ st .used + 1) (start : at ≤ end) (inside : end ≤ length F) (kind : getD F (st .used) 0 ≡ 3) where
               -- No byte is left over.
@@ -135,11 +137,11 @@ module _ {F I : List ℕ} {st : Stage} {M : Table} (a : AtRules F I st M) (at en
                   (indexed-more I (length (headFrames M)) (M .rows) row l state-small symbol-small (before-none (M .rows) q f (st .last) (a .numbers .behind) later) (a .index)))
 
               -- The stage behind the rule.
-              pub rule-next : length I ≡ 4096 → Stepped F (set I (q * 64 + f) x) (text.whole (text.ruleFrame M (slice at end F))) (next.Ready (behindRule st (q * 64 + f) end))
-              rule-next l = stepped-next F _ _ _ _ (slice then end F) taken nothing-left (record {
+              pub rule-next : length I ≡ 4096 → (o : Next) → o ≡ next.Ready (behindRule st (q * 64 + f) end) → Stepped F (set I (q * 64 + f) x) (text.whole (text.ruleFrame M (slice at end F))) o
+              rule-next l o e = stepped-ready F _ _ _ then end taken _ o (r .inside) whole (record {
                 phase = refl;
                 numbers = numbers-more st M row end (a .numbers) has-room symbol-small later;
                 used = sym (length-take-le end F inside) ∙ ap length frames-with;
                 frames = frames-with;
                 index = index-with l;
-              })
+              }) e

@@ -1,46 +1,18 @@
--- The stage behind a rule, and what a frame's answer stands for.
+-- The stage behind a rule.
 use mathlib.Core.Path.{_≡_, refl, sym, ap, _∙_}
 use mathlib.Core.List.{List, [], _∷_, _++_, append-assoc}
 use Prim.Native.Nat.{ℕ, _+_, _<_, _≤_}
 use native.Mathlib.Omega.{arith}
 use lib.ListN.{length, length-append}
 use Rattle.machine.specs.Machine.{Row, Table}
-use Rattle.text.specs.Fields.{Parsed, got, fault}
 use Rattle.text.specs.Frames as text
 use Rattle.text.specs.Writing.{rowFrame, initialFrame}
 use Rattle.layout.specs.Layout.{rowFrames, headFrames}
 use Rattle.layout.specs.Leaves.{headOf}
-use Rattle.layout.specs.declared.Head.{Head}
 use Rattle.layout.proofs.Growing.{rows-more}
-use Rattle.frames.specs.Staged.{key, Numbers, Staged, Stepped}
+use Rattle.frames.specs.Staged.{key, Numbers, moreRules, behindRule}
 use Rattle.frames.specs.declared.Stage.{Stage}
-use Rattle.frames.specs.declared.Next.{Next}
-use Rattle.frames.specs.declared.Next.the-variants as next
 use Rattle.frames.proofs.RuleKeys.{last-snoc, before-snoc}
-
--- ---- answers
-
--- A frame that is refused.
-pub stepped-wrong : (F I : List ℕ) (p : Parsed text.Stage) (k : ℕ) (r : Next) → p ≡ fault k → r ≡ next.Wrong k → Stepped F I (text.whole p) r
-stepped-wrong F I p k r e f = rw (e, f) refl
-
--- A frame with bytes left over.
-pub stepped-over : (F I : List ℕ) (p : Parsed text.Stage) (s : text.Stage) (b : ℕ) (bs rest : List ℕ) → p ≡ got s rest → rest ≡ b ∷ bs → Stepped F I (text.whole p) (next.Wrong 5)
-stepped-over F I p s b bs rest e f = rw (e, f) refl
-
--- A frame that is read to its end.
-pub stepped-next : (F I : List ℕ) (p : Parsed text.Stage) (s : text.Stage) (st : Stage) (rest : List ℕ) → p ≡ got s rest → rest ≡ [] → Staged F I st s → Stepped F I (text.whole p) (next.Ready st)
-stepped-next F I p s st rest e f h = rw (e, f) h
-
--- ---- the stage behind a rule
-
--- The head with one rule more.
-abbrev pub moreRules : Head → Head
-moreRules h = record { symbols = h .symbols; states = h .states; start = h .start; before = h .before; after = h .after; rows = h .rows; rules = h .rules + 1 }
-
--- The stage behind a rule at place k, whose frame ends at `end`.
-abbrev pub behindRule : Stage → ℕ → ℕ → Stage
-behindRule st k end = record { phase = 1; head = moreRules (st .head); last = k + 1; used = end }
 
 -- The frames before the first rule stay.
 pub head-frames : (M : Table) (r : Row) → headFrames (text.withRow M r) ≡ headFrames M

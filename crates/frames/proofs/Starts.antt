@@ -20,7 +20,7 @@ use Rattle.layout.proofs.Fit.{length-symbols}
 use Rattle.fields.proofs.Slices.{slice-none}
 use Rattle.fields.proofs.Numbers.{IsNumber}
 use Rattle.fields.proofs.Words.{IsWord}
-use Rattle.frames.specs.Staged.{AtSymbols, AtRules}
+use Rattle.frames.specs.Staged.{AtSymbols, AtRules, behindStart}
 use Rattle.frames.specs.declared.Stage.{Stage}
 use Rattle.frames.proofs.StepFrames.{frame-more, frame-long}
 
@@ -114,7 +114,7 @@ module _ {F I : List ℕ} {st : Stage} {ks : List ℕ} (z : AtSymbols F I st ks)
   start-all = frame-more F (st .used) end start-some inside _ _ 2 (z .frames) kind start-fields ∙ head-alone ks n u q v
 
   -- The table with no rule yet, of a frame that is read to its end.
-  pub start-staged : AtRules F I (record { phase = 1; head = record { symbols = st .head .symbols; states = n; start = q; before = b; after = c; rows = end; rules = 0 }; last = 0; used = end }) (started ks n u q v)
+  pub start-staged : AtRules F I (behindStart (st .head .symbols) n q b c end) (started ks n u q v)
   start-staged =
       let l : end ≡ length (headFrames (started ks n u q v) ++ rowFrames []) = frame-long F (st .used) end start-some inside _ start-all in
       let p = length-symbols ks in

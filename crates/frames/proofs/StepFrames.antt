@@ -18,8 +18,8 @@ use Rattle.frames.specs.declared.Next.the-variants as next
 
 module _ (F I : List ℕ) (p : Parsed text.Stage) where
   -- A number of no is answered.
-  pub stepped-number : (k : ℕ) → p ≡ fault k → Stepped F I (text.whole p) (next.Wrong k)
-  stepped-number k e = rw e refl
+  pub stepped-wrong : (k : ℕ) (r : Next) → p ≡ fault k → r ≡ next.Wrong k → Stepped F I (text.whole p) r
+  stepped-wrong k r e f = rw (e, f) refl
 
   -- The number of a field that is refused is answered.
   pub stepped-fault : (k : ℕ) (f : Field) (r : Next) → p ≡ fault k → f ≡ field.Fault k → r ≡ next.Wrong (faultOf f) → Stepped F I (text.whole p) r
@@ -31,8 +31,8 @@ module _ (F I : List ℕ) (p : Parsed text.Stage) where
     stepped-left h k = rw (e, slice-cons then end F 0 h k) refl
 
     -- The frame is read to its end.
-    pub stepped-ready : (st : Stage) → then ≤ end → end ≤ then → Staged F I st s → Stepped F I (text.whole p) (next.Ready st)
-    stepped-ready st h k d = rw (e, slice-none F then end (omega arith)) d
+    pub stepped-ready : (st : Stage) (r : Next) → then ≤ end → end ≤ then → Staged F I st s → r ≡ next.Ready st → Stepped F I (text.whole p) r
+    stepped-ready st r h k d f = rw (e, f, slice-none F then end (omega arith)) d
 
 module _ (F : List ℕ) (used end : ℕ) (h : used < end) (k : end ≤ length F) where
   -- The bytes up to a frame's end are those before it, its kind, and its fields.

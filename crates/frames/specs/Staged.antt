@@ -11,6 +11,7 @@ use Rattle.text.specs.Fields.{Parsed, got, fault, _>>=_, pure}
 use Rattle.text.specs.Writing.{AtMost}
 use Rattle.layout.specs.Layout.{symbolFrames, rowFrames, headFrames, framesOf, entryOf, Indexed}
 use Rattle.layout.specs.Leaves.{headOf}
+use Rattle.layout.specs.declared.Head.{Head}
 use Rattle.frames.specs.declared.Stage.{Stage}
 use Rattle.frames.specs.declared.Entry.{Entry}
 use Rattle.frames.specs.declared.Entry.the-variants as entry
@@ -75,6 +76,19 @@ Stepped F I (frames.next s) (next.Ready st) = Staged F I st s
 Stepped F I (frames.next s) (next.Wrong n) = ⊥
 Stepped F I (frames.wrong k) (next.Ready st) = ⊥
 Stepped F I (frames.wrong k) (next.Wrong n) = n ≡ k
+
+-- The stage behind frame 02, which ends at `end`: no rule yet.
+abbrev pub behindStart : ℕ → ℕ → ℕ → ℕ → ℕ → ℕ → Stage
+behindStart symbols states start before after end =
+    record { phase = 1; head = record { symbols = symbols; states = states; start = start; before = before; after = after; rows = end; rules = 0 }; last = 0; used = end }
+
+-- The head with one rule more.
+abbrev pub moreRules : Head → Head
+moreRules h = record { symbols = h .symbols; states = h .states; start = h .start; before = h .before; after = h .after; rows = h .rows; rules = h .rules + 1 }
+
+-- The stage behind a rule at place k, whose frame ends at `end`.
+abbrev pub behindRule : Stage → ℕ → ℕ → Stage
+behindRule st k end = record { phase = 1; head = moreRules (st .head); last = k + 1; used = end }
 
 -- A rule's fields behind its symbol: the word u0, then for each child its state and a word.
 unfoldable pub ruleField : ℕ → ℕ → fields.Field Rule

@@ -11,7 +11,7 @@ ghost use Rattle.machine.specs.Machine.{Table};
 ghost use Rattle.layout.specs.Layout.{Indexed};
 ghost use Rattle.text.specs.Frames as text;
 ghost use Rattle.fields.specs.Read.{faultOf};
-ghost use Rattle.frames.specs.Staged.{AtSymbols, AtRules, Staged, Stepped, ruleField, RuleRead, refusedBy, numberOf};
+ghost use Rattle.frames.specs.Staged.{AtSymbols, AtRules, Staged, Stepped, ruleField, RuleRead, refusedBy, numberOf, behindStart, behindRule};
 
 // How far the reader is: 0 while it reads symbols, 1 rules, 2 behind the end frame; the table's
 // numbers so far; the least place in the order of rules for the next one; how many bytes are used.
@@ -66,6 +66,33 @@ fn symbol_frame(st: Stage, frames: &[u8], at: usize, end: usize) -> Next
     })
 }
 
+// The stage behind frame 02, which ends at `end`: the numbers of a table with no rule yet.
+fn started(
+    symbols: usize,
+    states: usize,
+    start: usize,
+    before: usize,
+    after: usize,
+    end: usize,
+) -> Next
+    ensures { λ r. ⌜ r ≡ Next.Ready (behindStart symbols states start before after end) ⌝ }
+{
+    Next::Ready(Stage {
+        phase: 1,
+        head: Head {
+            symbols,
+            states,
+            start,
+            before,
+            after,
+            rows: end,
+            rules: 0,
+        },
+        last: 0,
+        used: end,
+    })
+}
+
 // Frame 02: number of states, word u0, state, word u1.
 fn start_frame(st: Stage, frames: &[u8], at: usize, end: usize) -> Next
     requires { ⌜ (at ≡ st .used + 1) × (at ≤ end) × (end ≤ length (now frames)) ⌝ }
@@ -104,20 +131,7 @@ fn start_frame(st: Stage, frames: &[u8], at: usize, end: usize) -> Next
     if next < end {
         return Next::Wrong { number: 5 };
     }
-    Next::Ready(Stage {
-        phase: 1,
-        head: Head {
-            symbols: old.symbols,
-            states,
-            start,
-            before,
-            after,
-            rows: end,
-            rules: 0,
-        },
-        last: 0,
-        used: end,
-    })
+    started(old.symbols, states, start, before, after, end)
 }
 
 // The index's number of a rule, and where the next field stands; or a number of no.
@@ -180,6 +194,21 @@ fn refused_by(entry: Entry) -> Next
     }
 }
 
+// The stage behind a rule at place `key` in the order of rules, whose frame ends at `end`.
+fn behind_rule(st: Stage, key: usize, end: usize) -> Next
+    requires { ⌜ (st .head .rules < 512) × (key < 4096) ⌝ }
+    ensures { λ r. ⌜ r ≡ Next.Ready (behindRule st key end) ⌝ }
+{
+    let mut head = st.head;
+    head.rules = head.rules + 1;
+    Next::Ready(Stage {
+        phase: 1,
+        head,
+        last: key + 1,
+        used: end,
+    })
+}
+
 // Frame 03: state, symbol, and the rule's fields. The rule's number goes into the index.
 fn rule_frame(st: Stage, frames: &[u8], index: &mut [u64], at: usize, end: usize) -> Next
     requires { ⌜ (at ≡ st .used + 1) × (at ≤ end) × (end ≤ 16384) × (end ≤ length (now frames)) × (length (now index) ≡ 4096) ⌝ }
@@ -227,14 +256,7 @@ fn rule_frame(st: Stage, frames: &[u8], index: &mut [u64], at: usize, end: usize
         return Next::Wrong { number: 5 };
     }
     index[key] = entry;
-    let mut head = old;
-    head.rules = rules + 1;
-    Next::Ready(Stage {
-        phase: 1,
-        head,
-        last: key + 1,
-        used: end,
-    })
+    behind_rule(st, key, end)
 }
 
 // Frame 04: nothing more; the end.

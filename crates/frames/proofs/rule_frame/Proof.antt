@@ -11,7 +11,7 @@ use Rattle.fields.proofs.Numbers as number
 use Rattle.frames.specs.Staged.{ruleField, refusedBy}
 use Rattle.frames.specs.declared.Next.the-variants as next
 use Rattle.frames.proofs.RuleFields as fields
-use Rattle.frames.proofs.RuleStage.{stepped-wrong}
+use Rattle.frames.proofs.StepFrames.{stepped-wrong}
 use Rattle.frames.proofs.RuleFrame as law
 use borrow.Author.Needs.{needs}
 use Rattle.frames.proofs.rule_frame.Statement.{statement}
@@ -185,19 +185,17 @@ mul-index c = omega (arith, state-small (c .before .before .before .before .befo
 slice-write-index : tie.Need-slice-write-index
 slice-write-index c = omega (arith, state-small (c .before .before .before .before .before .before .before .before .before .before .before .before .before .before), symbol-small (c .before .before .before .before .before .before .before .before .before .before), c .before .before .before .before .before .before .before .before .before .before .before .before .before .before .before .before .before .before .before .before .before .before .pre .0 .4)
 
-add-head : tie.Need-add-head
-add-head c = search needs
-
-add-t22 : tie.Need-add-t22
-add-t22 c = omega (arith, state-small (c .before .before .before .before .before .before .before .before .before .before .before .before .before .before), symbol-small (c .before .before .before .before .before .before .before .before .before .before))
+behind-rule-requires : tie.Need-behind-rule-requires
+behind-rule-requires c κs = (c .before .before .before .before .before .before .before .before .before .before .before .before .before .before .before .before .before .before .if1 .left, omega (arith, state-small (c .before .before .before .before .before .before .before .before .before .before .before .before .before .before), symbol-small (c .before .before .before .before .before .before .before .before .before .before)))
 
 same-length : tie.Need-same-length
 same-length c = search needs
 
 returns-8 : tie.Need-returns-8
-returns-8 c =
+returns-8 o =
+    let c = o .before in
     let s = c .before .before .before .before .before .before .before .before .before .before .before .before .before .before .before .before .before .before .before .before .before .before in (
-      λ M a kind. law.rule-next a (s .args .at) (s .args .end) (c .before .before .before .before .before .before .before .before .before .before .before .before .before .before .before .before .before .before .if1 .left) (state-read (c .before .before .before .before .before .before .before .before .before .before .before .before .before .before)) (symbol-read (c .before .before .before .before .before .before .before .before .before .before)) (c .before .before .before .before .before .before .before .before .if2 .left) _ (c .before .before .before .before .before .before .wide .ensures .0 ∙ c .before .before .before .before .before .before .before .byte .ensures) (rule-read (c .before)) (c .if4 .left) (s .pre .0 .0) (s .pre .0 .1) (s .pre .0 .3) kind (s .pre .0 .4),
+      λ M a kind. law.rule-next a (s .args .at) (s .args .end) (c .before .before .before .before .before .before .before .before .before .before .before .before .before .before .before .before .before .before .if1 .left) (state-read (c .before .before .before .before .before .before .before .before .before .before .before .before .before .before)) (symbol-read (c .before .before .before .before .before .before .before .before .before .before)) (c .before .before .before .before .before .before .before .before .if2 .left) _ (c .before .before .before .before .before .before .wide .ensures .0 ∙ c .before .before .before .before .before .before .before .byte .ensures) (rule-read (c .before)) (c .if4 .left) (s .pre .0 .0) (s .pre .0 .1) (s .pre .0 .3) kind (s .pre .0 .4) _ (o .behind-rule .ensures),
       length-set (s .args .index .now) _ _ ∙ s .pre .0 .4,
     )
 
@@ -232,7 +230,6 @@ rule-frame-spec =
     returns-7
     mul-index
     slice-write-index
-    add-head
-    add-t22
+    behind-rule-requires
     same-length
     returns-8)

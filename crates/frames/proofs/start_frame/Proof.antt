@@ -151,16 +151,21 @@ returns-5 c =
     law.stepped-left (a .frames .now) I _ _ (c .before .before .u1 .given .0 .1 .0) (a .end)
     (start.start-got ks _ _ _ (counted (j .before .before .before .before) .read) _ _ (first-word j .read) _ _ (stated i .read) _ _ (last-word (c .before) .read)) (c .if1 .taken) (c .before .before .before .before .before .before .before .before .before .before .before .before .before .before .before .before .before .before .before .pre .2)
 
+started-requires : tie.Need-started-requires
+started-requires c κs = search needs
+
 returns-6 : tie.Need-returns-6
-returns-6 c =
+returns-6 o =
+    let c = o .before in
     let a = c .before .before .before .before .before .before .before .before .before .before .before .before .before .before .before .before .before .before .before .args in
     let i = c .before .before .before .before .before in
     let j = i .before .before .before .before in
     let k = j .before .before .before .before in
     λ I ks d e.
     law.stepped-ready (a .frames .now) I _ _ (c .before .before .u1 .given .0 .1 .0) (a .end)
-    (start.start-got ks _ _ _ (counted k .read) _ _ (first-word j .read) _ _ (stated i .read) _ _ (last-word (c .before) .read)) _ (last-word (c .before) .inside) (c .if1 .left)
+    (start.start-got ks _ _ _ (counted k .read) _ _ (first-word j .read) _ _ (stated i .read) _ _ (last-word (c .before) .read)) _ _ (last-word (c .before) .inside) (c .if1 .left)
     (start.start-staged d e (a .at) (a .end) _ _ _ _ _ _ _ _ (c .before .before .before .before .before .before .before .before .before .before .before .before .before .before .before .before .before .before .before .pre .0) (c .before .before .before .before .before .before .before .before .before .before .before .before .before .before .before .before .before .before .before .pre .2) (counted k) (first-word j) (stated i) (last-word (c .before)) (c .if1 .left))
+    (o .started .ensures)
 
 pub start-frame-spec : {M : Type 1} → statement M
 start-frame-spec =
@@ -187,4 +192,5 @@ start-frame-spec =
     fault-requires-4
     returns-4
     returns-5
+    started-requires
     returns-6)

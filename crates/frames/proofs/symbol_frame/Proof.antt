@@ -13,7 +13,7 @@ use Rattle.frames.proofs.symbol_frame.Statement.{statement}
 use Rattle.frames.proofs.symbol_frame.Tie as tie
 
 returns : tie.Need-returns
-returns c = λ I ks d e. law.stepped-number (c .before .before .before .args .frames .now) I _ 4 (symbol.symbol-many ks _ (omega (arith, d .symbols)))
+returns c = λ I ks d e. law.stepped-wrong (c .before .before .before .args .frames .now) I _ 4 _ (symbol.symbol-many ks _ (omega (arith, d .symbols))) refl
 
 within-requires : tie.Need-within-requires
 within-requires c κs = search needs
@@ -61,8 +61,9 @@ returns-4 c =
     let i = numbered (c .before) in
     λ I ks d e.
     let m : length ks < 64 = omega (arith, d .symbols) in
-    law.stepped-ready (a .frames .now) I _ _ (c .before .before .arity .given .0 .1 .0) (a .end) (symbol.symbol-got ks _ m _ _ (i .read)) _ (i .inside) (c .if2 .left)
+    law.stepped-ready (a .frames .now) I _ _ (c .before .before .arity .given .0 .1 .0) (a .end) (symbol.symbol-got ks _ m _ _ (i .read)) _ _ (i .inside) (c .if2 .left)
     (symbol.symbol-staged d e (a .at) (a .end) _ _ _ (c .before .before .before .before .before .before .before .before .pre .0) (c .before .before .before .before .before .before .before .before .pre .2) m i (c .if2 .left) refl refl refl)
+    refl
 
 pub symbol-frame-spec : {M : Type 1} → statement M
 symbol-frame-spec =
