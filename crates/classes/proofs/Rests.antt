@@ -7,6 +7,8 @@ use Prim.Native.Nat.{ℕ, zero, suc, _+_, _-_, _<_}
 use native.Mathlib.Omega.{arith}
 use lib.ListN.{length, getD, drop}
 use Rattle.words.specs.Word.{spaces}
+use Rattle.words.specs.Told.{Told}
+use Rattle.words.proofs.Told.{told-map}
 use Rattle.machine.specs.Machine.{Child, Rule}
 use Rattle.machine.specs.Twins.{Rests}
 use Rattle.text.specs.Writing.{childrenText}
@@ -14,8 +16,7 @@ use Rattle.layout.specs.Layout.{restLetters, restSpaces, ruleLetters, ruleSpace
 use Rattle.layout.specs.Leaves.{wordAt, behindAt, PlaceOf}
 use Rattle.layout.specs.declared.Place.{Place}
 use Rattle.layout.proofs.Stretches.{first-word, first-behind, child-state, child-word, child-behind}
-use Rattle.classes.specs.Rounds.{Told, Alike, AlikeAt, RestsAt, SameRule}
-use Rattle.classes.proofs.Told.{told-map}
+use Rattle.classes.specs.Rounds.{Alike, AlikeAt, RestsAt, SameRule}
 
 -- One less than one more.
 one-less : (k : ℕ) → suc k - 1 ≡ k

@@ -7,6 +7,8 @@ use Prim.Native.Nat.{ℕ, _<_, _≤_}
 use native.Mathlib.Omega.{arith}
 use native.Mathlib.Decide.{decLt}
 use lib.ListN.{length}
+use Rattle.words.specs.Told.{Told}
+use Rattle.words.proofs.Told.{told-yes, told-no}
 use Rattle.machine.specs.Machine.{Rule, Table, WellMade, find}
 use Rattle.machine.specs.Twins.{Rules, Match}
 use Rattle.machine.proofs.Find.{find-fits}
@@ -17,8 +19,7 @@ use Rattle.layout.specs.declared.Lookup.{Lookup}
 use Rattle.layout.specs.declared.Lookup.the-variants.{Found, Missing}
 use Rattle.layout.proofs.Entries.{entry-none}
 use Rattle.layout.proofs.Lookups.{missing-right}
-use Rattle.classes.specs.Rounds.{Told, Alike, SameRule}
-use Rattle.classes.proofs.Told.{told-yes, told-no}
+use Rattle.classes.specs.Rounds.{Alike, SameRule}
 
 -- What was looked up, where the answer is known.
 looked-as : (F : List ℕ) (a : Option Rule) {l m : Lookup} → l ≡ m → LookedUp F a l → LookedUp F a m

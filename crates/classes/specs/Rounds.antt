@@ -1,6 +1,5 @@
 -- What a round does, and what its parts answer. Definitions only.
 use mathlib.Core.Path.{_≡_}
-use mathlib.Core.Bool.{Bool, true, false}
 use mathlib.Core.List.{List, [], _∷_}
 use Prim.Native.Nat.{ℕ, zero, suc, _+_, _-_, _<_, _≤_}
 use lib.ListN.{length, getD}
@@ -8,11 +7,6 @@ use Rattle.machine.specs.Machine.{Rule, Table}
 use Rattle.machine.specs.Twins.{Rests, Match}
 use Rattle.layout.specs.Layout.{Opened}
 use Rattle.layout.specs.Leaves.{wordAt, behindAt}
-
--- A test's answer tells whether A holds.
-pub record Told (A : Type 0) (r : Bool) : Type 0 where
-  pub if-true : r ≡ true → A
-  pub if-false : r ≡ false → A → ⊥
 
 -- The bytes F and the entries I are the opened table M, which has this many symbols.
 pub record Meant (F I : List ℕ) (symbols : ℕ) (M : Table) : Type 0 where

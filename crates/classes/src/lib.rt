@@ -5,11 +5,12 @@ ghost use mathlib.Core.Path.{_≡_};
 ghost use mathlib.Core.Bool.{true};
 ghost use Prim.Native.Nat.{ℕ, _<_, _≤_};
 ghost use lib.ListN.{length, getD};
+ghost use Rattle.words.specs.Told.{Told};
 ghost use Rattle.machine.specs.Machine.{Table};
 ghost use Rattle.machine.specs.Earliest.{Earliest};
 ghost use Rattle.layout.specs.Layout.{Opened};
 ghost use Rattle.classes.specs.Classes.{Classes, Numbered};
-ghost use Rattle.classes.specs.Rounds.{Told, Meant, Alike, Leads, Picked, Low, Raised, Rounded, Put, Adopted};
+ghost use Rattle.classes.specs.Rounds.{Meant, Alike, Leads, Picked, Low, Raised, Rounded, Put, Adopted};
 
 mod rules;
 

@@ -2,11 +2,12 @@
 ghost use mathlib.Core.Path.{_≡_};
 ghost use Prim.Native.Nat.{_<_};
 ghost use lib.ListN.{getD};
+ghost use Rattle.words.specs.Told.{Told};
 ghost use Rattle.machine.specs.Machine.{Rule, Table, find};
 ghost use Rattle.machine.specs.Twins.{Rules, Match};
 ghost use Rattle.layout.specs.Layout.{Opened};
 ghost use Rattle.layout.specs.Leaves.{wordAt, PlaceOf};
-ghost use Rattle.classes.specs.Rounds.{Told, Meant, Alike, RestsAt, SameRule};
+ghost use Rattle.classes.specs.Rounds.{Meant, Alike, RestsAt, SameRule};
 use layout::Lookup;
 use layout::Place;
 

@@ -11,11 +11,11 @@ use borrow.Author.Tests.{eqb-true, eqb-false, eq-eqb, ne-eqb}
 use lib.Dec.{eqb}
 use lib.ListN.{length, getD, List·getD-append}
 use lib.Seq.{ext-getD}
+use Rattle.words.specs.Told.{Told}
 use Rattle.text.specs.Lines.{digit, digitOf, hexOf, lineOf}
 use Rattle.text.specs.Writing.{AtMost, symbolLines}
 use Rattle.text.proofs.Digits.{digit-digitOf}
 use Rattle.layout.proofs.Modest.{at-most}
-use Rattle.classes.specs.Rounds.{Told}
 use Rattle.promises.specs.Comparison.{parting, later}
 use Rattle.fadurinko.specs.Parts.{Front, Symbols, SameAt, AlikeFor}
 

@@ -15,7 +15,7 @@ ghost use Rattle.promises.specs.Comparison as paper;
 ghost use Rattle.promises.specs.Comparison.{ComparisonAnswer};
 ghost use Rattle.finder.specs.Answer as word;
 ghost use Rattle.former.specs.Formed as form;
-ghost use Rattle.classes.specs.Rounds.{Told};
+ghost use Rattle.words.specs.Told.{Told};
 ghost use Rattle.fadurinko.specs.Answers.{comparisonOf, partingOf, refusalOf, aboutOf, apartOf};
 ghost use Rattle.fadurinko.specs.Parts.{Front, Symbols, AlikeFor};
 

@@ -6,6 +6,7 @@ use native.Mathlib.Numerals.{add-one}
 use native.Mathlib.Omega.{arith}
 use native.Mathlib.Decide.{decLt}
 use lib.ListN.{length, getD, set, length-set, List·getD-eq-default}
+use lib.Seq.{getD-set-same}
 use Rattle.machine.specs.Machine.{Table}
 use Rattle.layout.specs.Layout.{Opened}
 use Rattle.tally.specs.Tallied.{Counted, NextIs}
@@ -33,6 +34,10 @@ written-there P i a h = go (decLt i (length (set P i a)))
     go : Dec (i < length (set P i a)) → i < length (set P i a)
     go (yes l) = l
     go (no l) = absurd (h (List·getD-eq-default (set P i a) 0 (omega arith)))
+
+-- And a place that is there holds what is written.
+pub read-back : (P : List ℕ) (i a : ℕ) → i < length (set P i (suc a)) → getD (set P i (suc a)) i 0 ≡ 0 → ⊥
+read-back P i a l e = omega (arith, getD-set-same P i (suc a) 0 (omega (arith, length-set P i (suc a))), e)
 
 -- At first q waits.
 pub tallying-first : (I S P : List ℕ) (q : ℕ) (W : List ℕ) → length S ≤ 32768 → length S ≤ length P → length W ≡ 208 → q < 64 → Tallying I S P q W 1 q 0 0

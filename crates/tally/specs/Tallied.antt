@@ -30,6 +30,20 @@ abbrev pub Tallied : List ℕ → List ℕ → List ℕ → Table → ℕ → Ta
 Tallied F S P M q (tally.Counted letters gaps) = Counted F S P M q letters gaps
 Tallied F S P M q tally.Other = Unit {0}
 
+-- Tree bytes S of a length that is read, a plan P with a place for each of them, and a state q.
+pub record Ready (S P : List ℕ) (q : ℕ) : Type 0 where
+  pub some : 0 < length S
+  pub short : length S ≤ 32768
+  pub places : length S ≤ length P
+  pub state : q < 64
+
+-- A turn meets a symbol f of the index and a waiting number with at most 63 symbols above it; the stack of `top` places has one to give, and room for three.
+pub record Usual (f next top : ℕ) : Type 0 where
+  pub symbol : f < 64
+  pub levels : next ≤ 4095
+  pub waits : 0 < top
+  pub room : top ≤ 200
+
 -- The number that comes next behind a rule with k children: what waits below it if there are none, else the first child's.
 pub record NextIs (k below first next : ℕ) : Type 0 where
   pub none : k ≡ 0 → next ≡ below

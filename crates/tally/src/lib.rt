@@ -5,9 +5,10 @@ ghost use mathlib.Core.Path.{_≡_};
 ghost use mathlib.Core.List.{List};
 ghost use Prim.Native.Nat.{ℕ, suc, _+_, _*_, _/_, _%_, _<_, _≤_};
 ghost use lib.ListN.{length};
+ghost use Rattle.words.specs.Told.{Told};
 ghost use Rattle.machine.specs.Machine.{Table};
 ghost use Rattle.layout.specs.Layout.{Opened};
-ghost use Rattle.tally.specs.Tallied.{Tallied, NextIs};
+ghost use Rattle.tally.specs.Tallied.{Tallied, Ready, Usual, NextIs};
 
 // A tree's letters and letters 20; or that it is no tree with a word.
 pub enum Tally {
@@ -81,23 +82,53 @@ fn next_of(kids: usize, below: u16, first: u64) -> u64
     if kids == 0 { below as u64 } else { first }
 }
 
-// Measures the tree that tree bytes are, from state q on, and plans its writing.
-pub fn measure(index: &[u64; 4096], tree: &[u8], plan: &mut [u32; 32768], q: usize) -> Tally
-    ensures { λ r. ⌜ ((F : List ℕ) (M : Table) → Opened F (now (index .entry)) M → Tallied F (now (tree .entry)) (now (plan .exit)) M q r) ⌝ }
+// Whether the loop can go through tree bytes from state q on. Where it can, the plan has a place for
+// each byte.
+fn ready(tree: &[u8], plan: &mut [u32; 32768], q: usize) -> bool
+    ensures { λ r. ⌜ Told (Ready (now (tree .entry)) (now (plan .exit)) q) r ⌝ }
 {
     if tree.len() == 0 {
-        return Tally::Other;
+        return false;
     }
     if 32768 < tree.len() {
-        return Tally::Other;
+        return false;
     }
     if 63 < q {
-        return Tally::Other;
+        return false;
     }
     // The plan's last place is there: what is written is read back.
     let last = tree.len() - 1;
     plan[last] = 1;
     if plan[last] == 0 {
+        return false;
+    }
+    true
+}
+
+// Whether the next turn of the loop meets nothing unusual before the index is looked into.
+fn usual(f: usize, next: u64, top: usize) -> bool
+    ensures { λ r. ⌜ Told (Usual f next top) r ⌝ }
+{
+    if 63 < f {
+        return false;
+    }
+    if 4095 < next {
+        return false;
+    }
+    if top == 0 {
+        return false;
+    }
+    if 200 < top {
+        return false;
+    }
+    true
+}
+
+// Measures the tree that tree bytes are, from state q on, and plans its writing.
+pub fn measure(index: &[u64; 4096], tree: &[u8], plan: &mut [u32; 32768], q: usize) -> Tally
+    ensures { λ r. ⌜ ((F : List ℕ) (M : Table) → Opened F (now (index .entry)) M → Tallied F (now (tree .entry)) (now (plan .exit)) M q r) ⌝ }
+{
+    if !ready(tree, plan, q) {
         return Tally::Other;
     }
     let mut waiting = [0u16; 208];
@@ -108,16 +139,7 @@ pub fn measure(index: &[u64; 4096], tree: &[u8], plan: &mut [u32; 32768], q: usi
     let mut at = 0;
     while at < tree.len() {
         let f = wide(tree[at]);
-        if 63 < f {
-            return Tally::Other;
-        }
-        if 4095 < next {
-            return Tally::Other;
-        }
-        if top == 0 {
-            return Tally::Other;
-        }
-        if 200 < top {
+        if !usual(f, next, top) {
             return Tally::Other;
         }
         let x = index[entry_of(next, f)];

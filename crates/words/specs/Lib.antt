@@ -1,3 +1,4 @@
--- Words, sets of words, and answers.
+-- Words, sets of words, answers, and tests.
 pub mod Word
 pub mod Reply
+pub mod Told

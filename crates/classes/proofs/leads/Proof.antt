@@ -2,7 +2,7 @@
 use mathlib.Core.Path.{sym, _∙_}
 use mathlib.Core.Bool.{true≢false}
 use borrow.Author.Needs.{needs}
-use Rattle.classes.proofs.Told.{told-no, told-map}
+use Rattle.words.proofs.Told.{told-no, told-map}
 use Rattle.classes.proofs.leads.Statement.{statement}
 use Rattle.classes.proofs.leads.Tie as tie
 

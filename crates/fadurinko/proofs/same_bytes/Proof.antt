@@ -1,5 +1,5 @@
 -- `same_bytes` meets its contract. Assumes nothing.
-use Rattle.classes.proofs.Told.{told-no}
+use Rattle.words.proofs.Told.{told-no}
 use Rattle.fadurinko.proofs.Symbols.{front-longer, front-told}
 use borrow.Author.Needs.{needs}
 use Rattle.fadurinko.proofs.same_bytes.Statement.{statement}

@@ -7,7 +7,7 @@ use borrow.Author.Needs.{needs}
 use borrow.Author.Count.{below-more}
 use lib.ListN.{length, getD}
 use lib.Seq.{ext-getD}
-use Rattle.classes.proofs.Told.{told-yes, told-no}
+use Rattle.words.proofs.Told.{told-yes, told-no}
 use Rattle.classes.proofs.rules.same_letters.Statement.{statement}
 use Rattle.classes.proofs.rules.same_letters.Tie as tie
 

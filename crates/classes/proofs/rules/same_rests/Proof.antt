@@ -5,8 +5,8 @@ use Prim.Native.Nat.{_+_, _*_, _<_}
 use native.Mathlib.Omega.{arith}
 use borrow.Author.Needs.{needs}
 use borrow.Author.Tests.{not-true, not-false}
+use Rattle.words.proofs.Told.{told-yes, told-no}
 use Rattle.classes.specs.Rounds.{RestsAt}
-use Rattle.classes.proofs.Told.{told-yes, told-no}
 use Rattle.classes.proofs.Rests.{rests-at-move, step-rests-at, rests-at-none}
 use Rattle.classes.proofs.rules.same_rests.Statement.{statement}
 use Rattle.classes.proofs.rules.same_rests.Tie as tie

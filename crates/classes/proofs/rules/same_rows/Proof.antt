@@ -4,11 +4,11 @@ use native.Mathlib.Omega.{arith}
 use borrow.Author.Needs.{needs}
 use borrow.Author.Count.{below-more}
 use borrow.Author.Tests.{not-true, not-false}
+use Rattle.words.proofs.Told.{told-yes, told-no}
 use Rattle.machine.specs.Machine.{Table, find}
 use Rattle.machine.specs.Twins.{Rules}
 use Rattle.layout.specs.Layout.{Opened}
 use Rattle.classes.specs.Rounds.{Alike}
-use Rattle.classes.proofs.Told.{told-yes, told-no}
 use Rattle.classes.proofs.Rows.{match-symbols}
 use Rattle.classes.proofs.rules.same_rows.Statement.{statement}
 use Rattle.classes.proofs.rules.same_rows.Tie as tie

@@ -1,7 +1,7 @@
 -- `same_rule` meets its contract: other counts or another first word tell the rules apart; else their children settle it.
 use borrow.Author.Needs.{needs}
 use borrow.Author.Tests.{not-true, not-false}
-use Rattle.classes.proofs.Told.{told-no}
+use Rattle.words.proofs.Told.{told-no}
 use Rattle.classes.proofs.Rests.{letters-apart, kids-apart, spaces-apart, words-apart, rules-by-rests}
 use Rattle.classes.proofs.rules.same_rule.Statement.{statement}
 use Rattle.classes.proofs.rules.same_rule.Tie as tie

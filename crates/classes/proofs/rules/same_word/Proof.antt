@@ -1,7 +1,7 @@
 -- `same_word` meets its contract: the stretches are the words.
 use mathlib.Core.Path.{sym, _∙_}
 use borrow.Author.Needs.{needs}
-use Rattle.classes.proofs.Told.{told-map}
+use Rattle.words.proofs.Told.{told-map}
 use Rattle.classes.proofs.rules.same_word.Statement.{statement}
 use Rattle.classes.proofs.rules.same_word.Tie as tie
 

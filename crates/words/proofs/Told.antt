@@ -1,7 +1,7 @@
 -- A test's answer: yes, no, carried over.
 use mathlib.Core.Path.{sym}
 use mathlib.Core.Bool.{Bool, true, false, true≢false}
-use Rattle.classes.specs.Rounds.{Told}
+use Rattle.words.specs.Told.{Told}
 
 -- Yes, where A holds.
 pub told-yes : {A : Type 0} → A → Told A true
