@@ -1,0 +1,2 @@
+-- The linked calls.
+pub mod Linked
