@@ -13,13 +13,7 @@ fn answer(first: &[u8], second: &[u8]) {
             io::write_all(STDOUT_FILENO, b"different\n");
         }
         Compared::Refused { table, refusal } => {
-            io::write_all(STDOUT_FILENO, b"no ");
-            io::print_decimal(STDOUT_FILENO, table as u64);
-            io::write_all(STDOUT_FILENO, b" ");
-            io::print_decimal(STDOUT_FILENO, refusal.number as u64);
-            io::write_all(STDOUT_FILENO, b" ");
-            io::print_decimal(STDOUT_FILENO, refusal.place as u64);
-            io::write_all(STDOUT_FILENO, b"\n");
+            desk::print_no(&[table as u64, refusal.number as u64, refusal.place as u64]);
         }
     }
 }

@@ -1,5 +1,13 @@
 // What the programs share: reading a text, and printing a refusal.
-use libc::STDOUT_FILENO;
+mod output;
+
+pub use output::STOPPED;
+pub use output::flush;
+pub use output::print_no;
+pub use output::put;
+pub use output::put_all;
+pub use output::put_no;
+pub use output::put_number;
 ghost use Prim.Native.Nat.{_≤_};
 ghost use lib.ListN.{length};
 ghost use Rattle.desk.specs.Input.{Inside};
@@ -10,32 +18,33 @@ pub enum Input {
     Failed,
 }
 
+// Reads once, and answers how many bytes it put at the start of buf: none where the input has ended.
+pub fn read_some(fd: i32, buf: &mut [u8]) -> Input
+    ensures { λ r. ⌜ Inside (length (now (buf .entry))) r ⌝ }
+{
+    let got = libc::read(fd, buf);
+    if got < 0 {
+        return Input::Failed;
+    }
+    let n = io::count(got, buf);
+    Input::Bytes(n)
+}
+
 // Reads until buf is full or the input ends, and answers how many bytes it put at the start of buf.
 pub fn read_all(fd: i32, buf: &mut [u8]) -> Input
     ensures { λ r. ⌜ Inside (length (now (buf .entry))) r ⌝ }
 {
     let mut n = 0;
     while n < buf.len() {
-        let got = libc::read(fd, &mut buf[n..]);
-        if got < 0 {
+        let Input::Bytes(k) = read_some(fd, &mut buf[n..]) else {
             return Input::Failed;
-        }
-        let k = io::count(got, &buf[n..]);
+        };
         if k == 0 {
             return Input::Bytes(n);
         }
         n += k;
     }
     Input::Bytes(n)
-}
-
-// Prints "no", the number and the place, and a line feed.
-pub fn print_no(number: u8, place: usize) {
-    io::write_all(STDOUT_FILENO, b"no ");
-    io::print_decimal(STDOUT_FILENO, number as u64);
-    io::write_all(STDOUT_FILENO, b" ");
-    io::print_decimal(STDOUT_FILENO, place as u64);
-    io::write_all(STDOUT_FILENO, b"\n");
 }
 
 // Opens the file that argument i names and reads it; says on standard error what failed.

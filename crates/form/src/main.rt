@@ -10,7 +10,9 @@ fn answer(text: &[u8]) {
         Formed::Form { length, symbols: _ } => {
             io::write_all(STDOUT_FILENO, desk::front(&room, length));
         }
-        Formed::Refused(refusal) => desk::print_no(refusal.number, refusal.place),
+        Formed::Refused(refusal) => {
+            desk::print_no(&[refusal.number as u64, refusal.place as u64]);
+        }
     }
 }
 

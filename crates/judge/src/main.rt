@@ -9,7 +9,9 @@ fn answer(text: &[u8]) {
         Judged::Earliest => {
             io::write_all(STDOUT_FILENO, b"earliest\n");
         }
-        Judged::Refused(refusal) => desk::print_no(refusal.number, refusal.place),
+        Judged::Refused(refusal) => {
+            desk::print_no(&[refusal.number as u64, refusal.place as u64]);
+        }
     }
 }
 

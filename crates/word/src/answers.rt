@@ -1,29 +1,21 @@
 // What is answered to a line, put into the output buffer.
-use crate::front::within;
-use crate::output::put;
-use crate::output::put_all;
-use crate::output::put_hex;
-use crate::output::put_number;
+use crate::hex;
+use desk::put;
+use desk::put_all;
+use desk::put_number;
 use finder::Found;
 use finder::Letters;
 use layout::Refusal;
 
 // To a line that is not hexadecimal.
 pub fn not_hex(out: &mut [u8], used: usize) -> usize {
-    put_all(
-        &[b'n', b'o', b't', b' ', b'h', b'e', b'x', b'\n'],
-        out,
-        used,
-    )
+    put_all(b"not hex\n", out, used)
 }
 
 // A refusal: its number and place.
 pub fn refused(refusal: Refusal, out: &mut [u8], used: usize) -> usize {
-    let at = put_all(&[b'n', b'o', b' '], out, used);
-    let at = put_number(refusal.number as u64, out, at);
-    let at = put(b' ', out, at);
-    let at = put_number(refusal.place as u64, out, at);
-    put(b'\n', out, at)
+    let numbers = [refusal.number as u64, refusal.place as u64];
+    desk::put_no(&numbers, out, used)
 }
 
 // The letters at the front of the room, behind a blank, where there are any.
@@ -32,13 +24,12 @@ fn letters(length: usize, room: &[u8], out: &mut [u8], used: usize) -> usize {
         return used;
     }
     let at = put(b' ', out, used);
-    let n = within(length, room);
-    put_hex(&room[..n], out, at)
+    hex::put_hex(desk::front(room, length), out, at)
 }
 
 // A word: its length, its terms and its letters.
 fn word(found: Letters, room: &[u8], out: &mut [u8], used: usize) -> usize {
-    let at = put_all(&[b'w', b'o', b'r', b'd', b' '], out, used);
+    let at = put_all(b"word ", out, used);
     let at = put_number(found.length as u64, out, at);
     let at = put(b' ', out, at);
     let at = put_number(found.terms as u64, out, at);
@@ -46,7 +37,7 @@ fn word(found: Letters, room: &[u8], out: &mut [u8], used: usize) -> usize {
     put(b'\n', out, at)
 }
 
-// What the finder found, with the room that it wrote to.
+// What was found, with the room that it was written to.
 pub fn found(answer: Found, room: &[u8], out: &mut [u8], used: usize) -> usize {
     match answer {
         Found::Word(found) => word(found, room, out, used),

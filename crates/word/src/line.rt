@@ -1,4 +1,5 @@
-// A line of hexadecimal, taken a byte at a time.
+// A line of hexadecimal, taken as it comes in pieces.
+ghost use Prim.Native.Nat.{_≤_};
 
 // What half a byte is where none waits.
 pub const NONE: u8 = 16;
@@ -10,6 +11,12 @@ pub struct Line {
     pub half: u8,
     pub bad: bool,
     pub any: bool,
+}
+
+// A line after some characters of a piece, and where the next one stands in the piece.
+pub struct Fed {
+    pub line: Line,
+    pub next: usize,
 }
 
 // A line of which nothing has come.
@@ -53,7 +60,7 @@ fn store(b: u8, tree: &mut [u8], bytes: usize) -> usize {
 }
 
 // The line with one character more.
-pub fn feed(line: Line, c: u8, tree: &mut [u8]) -> Line {
+fn feed(line: Line, c: u8, tree: &mut [u8]) -> Line {
     let d = digit(c);
     let bytes = line.bytes;
     if 15 < d {
@@ -79,4 +86,21 @@ pub fn feed(line: Line, c: u8, tree: &mut [u8]) -> Line {
         bad: line.bad,
         any: true,
     }
+}
+
+// The line with the characters of a piece from a place on, up to a line feed or the piece's end.
+pub fn feed_all(line: Line, piece: &[u8], from: usize, tree: &mut [u8]) -> Fed
+    ensures { λ r. ⌜ from ≤ r .next ⌝ }
+{
+    let mut line = line;
+    let mut next = from;
+    while next < piece.len() {
+        let c = piece[next];
+        if c == b'\n' {
+            return Fed { line, next };
+        }
+        line = feed(line, c, tree);
+        next += 1;
+    }
+    Fed { line, next }
 }

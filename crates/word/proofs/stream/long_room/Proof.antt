@@ -2,8 +2,8 @@
 use Prim.Native.Nat.{ℕ}
 use mathlib.Core.Path.{sym}
 use lib.ListN.{length-replicate}
-use Rattle.word.proofs.long_room.Statement.{statement}
-use Rattle.word.proofs.long_room.Tie as tie
+use Rattle.word.proofs.stream.long_room.Statement.{statement}
+use Rattle.word.proofs.stream.long_room.Tie as tie
 
 returns : tie.Need-returns
 returns c = sym (length-replicate {A = ℕ} 5242944 0)

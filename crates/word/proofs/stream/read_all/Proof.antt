@@ -2,15 +2,14 @@
 use mathlib.Core.Path.{_≡_}
 use lib.ListN.{length}
 use borrow.Author.Needs.{needs}
-use Rattle.word.proofs.read_all.Statement.{statement}
-use Rattle.word.proofs.read_all.Tie as tie
+use Rattle.word.proofs.stream.read_all.Statement.{statement}
+use Rattle.word.proofs.stream.read_all.Tie as tie
 
 abbrev Inv-loop : tie.InvT-loop
-Inv-loop opening frames index tree₀ room₀ piece₀ out₀ step₀ turns₀ tree room piece out step turns =
-    (length tree ≡ length tree₀) × (length room ≡ length room₀) × (length piece ≡ length piece₀) × (length out ≡ length out₀)
+Inv-loop opening frames index tree₀ plan₀ room₀ piece₀ out₀ state₀ turns₀ tree plan room piece out state turns = (length tree ≡ length tree₀) × (length room ≡ length room₀) × (length piece ≡ length piece₀) × (length out ≡ length out₀)
 
 abbrev μ-loop : tie.MeasureT-loop
-μ-loop opening frames index tree₀ room₀ piece₀ out₀ step₀ turns₀ tree room piece out step turns = turns
+μ-loop opening frames index tree₀ plan₀ room₀ piece₀ out₀ state₀ turns₀ tree plan room piece out state turns = turns
 
 start-requires : tie.Need-start-requires Inv-loop μ-loop
 start-requires c κs = search needs
@@ -45,6 +44,21 @@ same-length-4 c = search needs
 returns : tie.Need-returns Inv-loop μ-loop
 returns c = search needs
 
+same-length-5 : tie.Need-same-length-5 Inv-loop μ-loop
+same-length-5 c = search needs
+
+same-length-6 : tie.Need-same-length-6 Inv-loop μ-loop
+same-length-6 c = search needs
+
+same-length-7 : tie.Need-same-length-7 Inv-loop μ-loop
+same-length-7 c = search needs
+
+same-length-8 : tie.Need-same-length-8 Inv-loop μ-loop
+same-length-8 c = search needs
+
+returns-2 : tie.Need-returns-2 Inv-loop μ-loop
+returns-2 c = search needs
+
 pub read-all-spec : {M : Type 1} → statement M
 read-all-spec =
     tie.close
@@ -61,4 +75,9 @@ read-all-spec =
     same-length-2
     same-length-3
     same-length-4
-    returns)
+    returns
+    same-length-5
+    same-length-6
+    same-length-7
+    same-length-8
+    returns-2)

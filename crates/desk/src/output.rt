@@ -1,7 +1,6 @@
 // Standard output through a lent buffer: the bytes that wait in it are counted by a number, which is
 // STOPPED once a write has failed.
-
-use crate::front::within;
+use crate::front;
 
 // What counts the waiting bytes after a write has failed.
 pub const STOPPED: usize = usize::MAX;
@@ -11,11 +10,10 @@ pub fn flush(out: &[u8], used: usize) -> usize {
     if out.len() < used {
         return STOPPED;
     }
-    let n = within(used, out);
-    if io::write_all(libc::STDOUT_FILENO, &out[..n]) {
+    if io::write_all(libc::STDOUT_FILENO, front(out, used)) {
         return 0;
     }
-    os::fail(&[b'w', b'r', b'i', b't', b'e']);
+    os::fail(b"write");
     STOPPED
 }
 
@@ -51,21 +49,21 @@ pub fn put_number(n: u64, out: &mut [u8], used: usize) -> usize {
     put_all(&digits[..k], out, used)
 }
 
-// The lowercase hexadecimal digit of the lower half of a byte.
-fn glyph(b: u8) -> u8 {
-    let d = b % 16;
-    if d < 10 { 48 + d } else { 87 + d }
-}
-
-// Puts bytes in lowercase hexadecimal.
-pub fn put_hex(bytes: &[u8], out: &mut [u8], used: usize) -> usize {
-    let mut at = used;
+// Puts a refusal: "no", the numbers that tell it, each behind a blank, and a line feed.
+pub fn put_no(numbers: &[u64], out: &mut [u8], used: usize) -> usize {
+    let mut at = put_all(b"no", out, used);
     let mut i = 0;
-    while i < bytes.len() {
-        let b = bytes[i];
-        at = put(glyph(b / 16), out, at);
-        at = put(glyph(b), out, at);
+    while i < numbers.len() {
+        at = put(b' ', out, at);
+        at = put_number(numbers[i], out, at);
         i += 1;
     }
-    at
+    put(b'\n', out, at)
+}
+
+// Prints a refusal by itself.
+pub fn print_no(numbers: &[u64]) {
+    let mut out = io::buffer();
+    let used = put_no(numbers, &mut out, 0);
+    flush(&out, used);
 }

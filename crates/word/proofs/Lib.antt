@@ -1,2 +1,0 @@
--- What opening a table keeps of what it is lent.
-mod Kept
