@@ -1,0 +1,29 @@
+//! The limits of tables and trees, and the sizes of an opened table's arrays.
+
+/// Bytes of a table text, at least 1. A form is never longer than its table's text.
+pub const TEXT: usize = 32_768;
+/// Symbols of a table, at least 1.
+pub const SYMBOLS: usize = 64;
+/// Trees below a symbol, at least 0.
+pub const ARITY: usize = 4;
+/// States of a table, at least 1.
+pub const STATES: usize = 64;
+/// Letters of a word in a rule, at least 0.
+pub const LETTERS: usize = 32;
+/// Rules of a table, at least 0.
+pub const RULES: usize = 512;
+/// Symbols of a tree, at least 1.
+pub const TREE: usize = 32_768;
+/// Levels of a tree, at least 1: a lone leaf has depth 1.
+pub const DEPTH: usize = 64;
+/// A room of this length takes the word of any tree: a tree of n symbols is written with 2 n + 1
+/// words of the table.
+pub const LONGEST: usize = (2 * TREE + 1) * LETTERS;
+/// Bytes of an opened table's frames.
+pub const FRAMES: usize = 16_448;
+/// Entries of an opened table's index.
+pub const ENTRIES: usize = 4_096;
+/// Numbers of an opened table's head.
+pub const HEAD: usize = 7;
+/// Entries of the plan that finding a word is lent.
+pub const PLAN: usize = 32_768;

@@ -1,0 +1,144 @@
+//! A table that is opened once.
+
+use std::fmt;
+
+use crate::lent;
+use crate::limit::{ENTRIES, FRAMES, HEAD, PLAN};
+use crate::{answered, found, Refusal, Word};
+
+/// A table that is opened once and finds the words of many trees.
+///
+/// It owns all that it needs (about 180 kilobytes on the heap) and lets the text go. Finding a word
+/// writes to a plan that it owns too, so a thread needs an open table of its own: clone it.
+///
+/// ```
+/// # fn main() -> Result<(), fadurinko::Refusal> {
+/// let text = b"0102\n0100\n0100\n0202000000\n0300000001012c0100\n03010100\n0301020178\n04\n";
+/// let mut table = fadurinko::OpenTable::open(text)?;
+/// assert_eq!(table.word(&[0, 2, 2])?, b"x,x");
+/// assert_eq!(table.word(&[0, 2, 1])?, b"x,");
+/// assert_eq!(table.word(&[1]).unwrap_err().number, fadurinko::number::RULE);
+/// # Ok(())
+/// # }
+/// ```
+#[derive(Clone)]
+pub struct OpenTable {
+    frames: Box<[u8; FRAMES]>,
+    index: Box<[u64; ENTRIES]>,
+    head: [usize; HEAD],
+    plan: Box<[u32; PLAN]>,
+}
+
+impl fmt::Debug for OpenTable {
+    fn fmt(&self, out: &mut fmt::Formatter<'_>) -> fmt::Result {
+        let [symbols, states, .., rules] = self.head;
+        out.debug_struct("OpenTable")
+            .field("symbols", &symbols)
+            .field("states", &states)
+            .field("rules", &rules)
+            .finish_non_exhaustive()
+    }
+}
+
+/// An array on the heap that was never on the stack.
+fn boxed<T: Clone + Default, const N: usize>() -> Box<[T; N]> {
+    match vec![T::default(); N].try_into() {
+        Ok(array) => array,
+        Err(_) => unreachable!("the list has N entries"),
+    }
+}
+
+impl OpenTable {
+    /// Opens a table text, or says which line is wrong (1 to 5).
+    pub fn open(text: &[u8]) -> Result<OpenTable, Refusal> {
+        let mut table = OpenTable {
+            frames: boxed(),
+            index: boxed(),
+            head: [0; HEAD],
+            plan: boxed(),
+        };
+        table.reopen(text)?;
+        Ok(table)
+    }
+
+    /// Opens another table text in the same memory. A refused text leaves the table as it was.
+    ///
+    /// ```
+    /// # fn main() -> Result<(), fadurinko::Refusal> {
+    /// let mut table = fadurinko::OpenTable::open(b"0100\n0201000000\n0300000161\n04\n")?;
+    /// assert!(table.reopen(b"0100\n").is_err());
+    /// assert_eq!(table.word(&[0])?, b"a");
+    /// table.reopen(b"0100\n0201000000\n0300000162\n04\n")?;
+    /// assert_eq!(table.word(&[0])?, b"b");
+    /// # Ok(())
+    /// # }
+    /// ```
+    pub fn reopen(&mut self, text: &[u8]) -> Result<(), Refusal> {
+        let mut place = 0;
+        let number = lent::open(
+            text,
+            &mut self.frames,
+            &mut self.index,
+            &mut self.head,
+            &mut place,
+        );
+        answered(number, place, ())
+    }
+
+    /// Puts the word of a tree into the first bytes of a lent room, or says why not (6 to 12). The
+    /// rest of the room stays as it was, and so does all of it on a no. Nothing is allocated.
+    ///
+    /// ```
+    /// # fn main() -> Result<(), fadurinko::Refusal> {
+    /// let mut table = fadurinko::OpenTable::open(b"0100\n0201000000\n03000003612062\n04\n")?;
+    /// let mut room = [b'.'; 5];
+    /// let word = table.word_into(&[0], &mut room)?;
+    /// assert_eq!((word.length, word.terms), (3, 2));
+    /// assert_eq!(&room, b"a b..");
+    /// let no = table.word_into(&[0], &mut room[..2]).unwrap_err();
+    /// assert_eq!((no.number, no.place), (fadurinko::number::ROOM, 3));
+    /// # Ok(())
+    /// # }
+    /// ```
+    pub fn word_into(&mut self, tree: &[u8], room: &mut [u8]) -> Result<Word, Refusal> {
+        let (mut count, mut terms) = (0, 0);
+        let number = lent::find(
+            &self.frames,
+            &self.index,
+            &self.head,
+            tree,
+            &mut self.plan,
+            room,
+            &mut count,
+            &mut terms,
+        );
+        answered(
+            number,
+            count,
+            Word {
+                length: count,
+                terms,
+            },
+        )
+    }
+
+    /// The word of a tree, or why it has none (6 to 11).
+    pub fn word(&mut self, tree: &[u8]) -> Result<Vec<u8>, Refusal> {
+        found(|room| self.word_into(tree, room))
+    }
+
+    /// Nothing if the table is earliest, or why not (13 to 18).
+    ///
+    /// ```
+    /// # fn main() -> Result<(), fadurinko::Refusal> {
+    /// let late = fadurinko::OpenTable::open(b"0100\n0201000000\n0300000161\n04\n")?;
+    /// assert_eq!(late.judge().unwrap_err().number, fadurinko::number::PREFIX);
+    /// # Ok(())
+    /// # }
+    /// ```
+    pub fn judge(&self) -> Result<(), Refusal> {
+        let mut place = 0;
+        let number = lent::judge_opened(&self.frames, &self.head, &mut place);
+        answered(number, place, ())
+    }
+}

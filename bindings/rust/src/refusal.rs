@@ -1,0 +1,134 @@
+//! The numbers of no, in words.
+
+use std::error::Error;
+use std::fmt;
+
+/// A no: its number, 1 to 19, and its place. Nothing was written.
+///
+/// ```
+/// let refusal = fadurinko::judge(b"01").unwrap_err();
+/// assert_eq!((refusal.number, refusal.place), (fadurinko::number::LINE, 0));
+/// assert_eq!(
+///     refusal.to_string(),
+///     "no 2 0: a line is empty, has an odd number of digits or another character, or is not closed; \
+///      look at the line that starts at byte 0 of the table text"
+/// );
+/// ```
+#[derive(Clone, Copy, Debug, PartialEq, Eq, Hash)]
+pub struct Refusal {
+    /// What is wrong; the names are in [`crate::number`].
+    pub number: u8,
+    /// Where it is wrong. What is counted depends on the number.
+    pub place: usize,
+}
+
+impl Refusal {
+    /// What the number means.
+    pub fn meaning(&self) -> &'static str {
+        match self.number {
+            1 => "the table text is empty or longer than 32768 bytes",
+            2 => "a line is empty, has an odd number of digits or another character, or is not closed",
+            3 => "a frame is unknown or not due here, a rule does not rise, or the end frame is lacking",
+            4 => "a number is beyond its range, or there is a 65th symbol or a 513th rule",
+            5 => "a frame is too short or too long",
+            6 => "the tree is empty or longer than 32768 symbols",
+            7 => "a symbol is not in the table's list",
+            8 => "the tree stops early",
+            9 => "there is no rule for the state and the symbol",
+            10 => "the tree has more than 64 levels",
+            11 => "there are symbols behind the tree's end",
+            12 => "the room is too short",
+            13 => "a state is not reached from the initial state",
+            14 => "a state has no word",
+            15 => "the table is late: the words of a state have a common prefix",
+            16 => "the table is late: the words of a state have a common suffix",
+            17 => "the table is late: letters of the initial rule could stand further left",
+            18 => "the table is late: letters of a rule could stand further left",
+            19 => "the symbol lists of the two tables differ",
+            _ => "no such number is given",
+        }
+    }
+
+    fn advice(&self, out: &mut fmt::Formatter<'_>) -> fmt::Result {
+        let place = self.place;
+        match self.number {
+            1 => write!(out, "give 1 to 32768 bytes"),
+            3 => write!(
+                out,
+                "look at the line that starts at byte {place} of the table text; \
+                 if the text ends there, close it with the line 04"
+            ),
+            2 | 4 | 5 => write!(
+                out,
+                "look at the line that starts at byte {place} of the table text"
+            ),
+            6 => write!(out, "give 1 to 32768 symbols"),
+            7 | 10 => write!(out, "look at the symbol at {place}"),
+            8 => write!(out, "its {place} symbols need more trees below them"),
+            9 => write!(
+                out,
+                "the table turns this tree down at the symbol at {place}"
+            ),
+            11 => write!(out, "cut the tree before the symbol at {place}"),
+            12 => write!(out, "lend {place} bytes"),
+            13 | 14 => write!(out, "drop state {place}"),
+            15 => write!(out, "write the prefix of state {place} before it is called"),
+            16 => write!(out, "write the suffix of state {place} behind its call"),
+            17 => write!(out, "move the letters before its state"),
+            18 => write!(out, "look at the rule with index {place}, counted from 0"),
+            19 => write!(out, "look at the symbol with index {place}, counted from 0"),
+            _ => write!(
+                out,
+                "the archive is not the one that this crate was made for"
+            ),
+        }
+    }
+}
+
+impl fmt::Display for Refusal {
+    fn fmt(&self, out: &mut fmt::Formatter<'_>) -> fmt::Result {
+        write!(
+            out,
+            "no {} {}: {}; ",
+            self.number,
+            self.place,
+            self.meaning()
+        )?;
+        self.advice(out)
+    }
+}
+
+impl Error for Refusal {}
+
+/// A no about two tables.
+///
+/// ```
+/// let one = b"0100\n0201000000\n03000000\n04\n";
+/// let two = b"0100\n0100\n0201000000\n03000000\n04\n";
+/// let no = fadurinko::compare(one, two).unwrap_err();
+/// assert_eq!((no.table, no.refusal.number, no.refusal.place), (0, 19, 1));
+/// assert_eq!(
+///     no.to_string(),
+///     "no 19 1: the symbol lists of the two tables differ; \
+///      look at the symbol with index 1, counted from 0"
+/// );
+/// ```
+#[derive(Clone, Copy, Debug, PartialEq, Eq, Hash)]
+pub struct CompareRefusal {
+    /// Which table it is about: 1 or 2, or 0 for number 19, which is about both.
+    pub table: u8,
+    /// Its number and its place.
+    pub refusal: Refusal,
+}
+
+impl fmt::Display for CompareRefusal {
+    fn fmt(&self, out: &mut fmt::Formatter<'_>) -> fmt::Result {
+        match self.table {
+            1 => write!(out, "first table: {}", self.refusal),
+            2 => write!(out, "second table: {}", self.refusal),
+            _ => self.refusal.fmt(out),
+        }
+    }
+}
+
+impl Error for CompareRefusal {}

@@ -1,0 +1,75 @@
+//! The C header and this crate have the same limits and numbers under the same names.
+
+use fadurinko::{limit, number};
+
+fn header() -> String {
+    let path = concat!(env!("CARGO_MANIFEST_DIR"), "/../../include/fadurinko.h");
+    std::fs::read_to_string(path).expect("the header is there")
+}
+
+/// The first word behind `start`, on the line that begins with it.
+fn value_behind(header: &str, start: &str) -> usize {
+    let line = header
+        .lines()
+        .find_map(|line| line.trim().strip_prefix(start));
+    let word = line.and_then(|rest| rest.split([' ', ',']).next());
+    word.and_then(|word| word.parse().ok())
+        .unwrap_or_else(|| panic!("{start}: not there"))
+}
+
+#[test]
+fn limits() {
+    let header = header();
+    let limits = [
+        ("TEXT", limit::TEXT),
+        ("SYMBOLS", limit::SYMBOLS),
+        ("ARITY", limit::ARITY),
+        ("STATES", limit::STATES),
+        ("LETTERS", limit::LETTERS),
+        ("RULES", limit::RULES),
+        ("TREE", limit::TREE),
+        ("DEPTH", limit::DEPTH),
+        ("FRAMES", limit::FRAMES),
+        ("ENTRIES", limit::ENTRIES),
+        ("HEAD", limit::HEAD),
+        ("PLAN", limit::PLAN),
+    ];
+    for (name, value) in limits {
+        assert_eq!(
+            value_behind(&header, &format!("#define FADURINKO_{name} ")),
+            value,
+            "{name}"
+        );
+    }
+}
+
+#[test]
+fn numbers() {
+    let header = header();
+    let numbers = [
+        ("TEXT_SIZE", number::TEXT_SIZE),
+        ("LINE", number::LINE),
+        ("KIND", number::KIND),
+        ("RANGE", number::RANGE),
+        ("FRAME_LENGTH", number::FRAME_LENGTH),
+        ("TREE_SIZE", number::TREE_SIZE),
+        ("SYMBOL", number::SYMBOL),
+        ("TREE_STOPS", number::TREE_STOPS),
+        ("RULE", number::RULE),
+        ("DEPTH", number::DEPTH),
+        ("TREE_ENDED", number::TREE_ENDED),
+        ("ROOM", number::ROOM),
+        ("REACHED", number::REACHED),
+        ("WORD", number::WORD),
+        ("PREFIX", number::PREFIX),
+        ("SUFFIX", number::SUFFIX),
+        ("INITIAL", number::INITIAL),
+        ("EARLIEST_RULE", number::EARLIEST_RULE),
+        ("SYMBOL_LISTS", number::SYMBOL_LISTS),
+    ];
+    assert!(numbers.iter().map(|&(_, value)| value).eq(1..=19));
+    for (name, value) in numbers {
+        let start = format!("FADURINKO_NO_{name} = ");
+        assert_eq!(value_behind(&header, &start), usize::from(value), "{name}");
+    }
+}

@@ -1,0 +1,81 @@
+//! `cases SEED COUNT` compares the exported calls with the second program on COUNT table texts, COUNT
+//! trees and COUNT pairs of texts: numbers, places, counts, every byte of the room and the bytes on
+//! both sides of it. Exit status 1 if anything differs.
+
+mod opened;
+mod report;
+mod room;
+mod tables;
+mod trees;
+
+use std::process::ExitCode;
+use std::time::{Duration, Instant};
+
+use report::Report;
+use room::Rooms;
+use tables::Tables;
+use trees::Trees;
+
+const USAGE: &str = "usage: cases SEED COUNT";
+
+fn main() -> ExitCode {
+    let words: Vec<String> = std::env::args().skip(1).collect();
+    let [seed, count] = words.as_slice() else {
+        eprintln!("{USAGE}");
+        return ExitCode::from(2);
+    };
+    let (Ok(seed), Ok(count)) = (seed.parse(), count.parse()) else {
+        eprintln!("{USAGE}");
+        return ExitCode::from(2);
+    };
+    println!("seed {seed}: {count} texts, {count} trees, {count} pairs of texts");
+    let report = run(seed, count);
+    print!("{}", report.shown());
+    if report.differences() == 0 {
+        ExitCode::SUCCESS
+    } else {
+        ExitCode::FAILURE
+    }
+}
+
+fn run(seed: u64, count: usize) -> Report {
+    let mut report = Report::new();
+    let mut rooms = Rooms::new(seed);
+    let mut tables = Tables::new(seed);
+    let mut trees = Trees::new(seed);
+    let mut progress = Progress::new(count);
+    for index in 0..count {
+        tables.text(index, &mut rooms, &mut report);
+        tables.pair(index, &mut report);
+        trees.next(&mut rooms, &mut report);
+        progress.after(index + 1);
+    }
+    report
+}
+
+/// A line on standard error every so often.
+struct Progress {
+    count: usize,
+    start: Instant,
+    due: Duration,
+}
+
+impl Progress {
+    const STEP: Duration = Duration::from_secs(20);
+
+    fn new(count: usize) -> Progress {
+        Progress {
+            count,
+            start: Instant::now(),
+            due: Progress::STEP,
+        }
+    }
+
+    fn after(&mut self, done: usize) {
+        let passed = self.start.elapsed();
+        if passed >= self.due {
+            eprintln!("{done} of {} in {} s", self.count, passed.as_secs());
+            self.due = passed + Progress::STEP;
+        }
+    }
+}

@@ -1,0 +1,148 @@
+//! What was compared, and where the answers differ.
+
+use std::fmt::{Debug, Write};
+
+/// The exported calls.
+#[derive(Clone, Copy, Debug)]
+pub enum Call {
+    Word,
+    Find,
+    Judge,
+    JudgeOpened,
+    Form,
+    Compare,
+    Open,
+}
+
+const NAMES: [&str; 7] = [
+    "word",
+    "find",
+    "judge",
+    "judge_opened",
+    "form",
+    "compare",
+    "open",
+];
+
+const SHOWN: usize = 10;
+
+/// How often a call was tried: inputs, and how often it answered with each number (an input is
+/// tried in several rooms).
+#[derive(Clone, Copy)]
+struct Count {
+    inputs: usize,
+    answers: [usize; 256],
+}
+
+impl Count {
+    const NONE: Count = Count {
+        inputs: 0,
+        answers: [0; 256],
+    };
+
+    fn calls(&self) -> usize {
+        self.answers.iter().sum()
+    }
+
+    /// The numbers that were answered, and how often each.
+    fn numbers(&self) -> String {
+        let given = self
+            .answers
+            .iter()
+            .enumerate()
+            .filter(|(_, count)| **count > 0);
+        let said = given.map(|(number, count)| match number {
+            0 => format!("yes {count}"),
+            _ => format!("no {number}: {count}"),
+        });
+        said.collect::<Vec<_>>().join(", ")
+    }
+}
+
+pub struct Report {
+    counts: [Count; NAMES.len()],
+    differences: usize,
+    first: Vec<String>,
+}
+
+impl Report {
+    pub fn new() -> Report {
+        Report {
+            counts: [Count::NONE; NAMES.len()],
+            differences: 0,
+            first: Vec::new(),
+        }
+    }
+
+    pub fn input(&mut self, call: Call) {
+        self.counts[call as usize].inputs += 1;
+    }
+
+    /// One call: what it answered, what the second program says, and what is wrong with the bytes.
+    pub fn call<A: PartialEq + Debug>(
+        &mut self,
+        call: Call,
+        mine: (u8, A),
+        theirs: (u8, A),
+        bytes: Result<(), &str>,
+        case: impl FnOnce() -> String,
+    ) {
+        self.counts[call as usize].answers[usize::from(mine.0)] += 1;
+        if mine == theirs && bytes.is_ok() {
+            return;
+        }
+        self.differences += 1;
+        if self.first.len() < SHOWN {
+            let wrong = bytes.err().unwrap_or("the bytes agree");
+            self.first.push(format!(
+                "{} differs, {}: answered {mine:?}, the second program {theirs:?}; {wrong}",
+                NAMES[call as usize],
+                case()
+            ));
+        }
+    }
+
+    pub fn differences(&self) -> usize {
+        self.differences
+    }
+
+    pub fn shown(&self) -> String {
+        let mut text = String::new();
+        for (name, count) in NAMES.iter().zip(&self.counts) {
+            let (inputs, calls, numbers) = (count.inputs, count.calls(), count.numbers());
+            let _ = writeln!(text, "{name}: {inputs} cases, {calls} calls ({numbers})");
+        }
+        for difference in &self.first {
+            let _ = writeln!(text, "{difference}");
+        }
+        let inputs: usize = self.counts.iter().map(|count| count.inputs).sum();
+        let calls: usize = self.counts.iter().map(Count::calls).sum();
+        let _ = writeln!(
+            text,
+            "{inputs} cases, {calls} calls, {} differences",
+            self.differences
+        );
+        text
+    }
+}
+
+#[cfg(test)]
+mod tests {
+    use super::*;
+
+    #[test]
+    fn every_difference_counts() {
+        let mut report = Report::new();
+        let name = || "case".to_string();
+        report.call(Call::Word, (0, [3, 1]), (0, [3, 1]), Ok(()), name);
+        assert_eq!(report.differences(), 0);
+        report.call(Call::Word, (0, [3, 1]), (0, [3, 2]), Ok(()), name);
+        report.call(Call::Word, (12, [3, 0]), (9, [3, 0]), Ok(()), name);
+        report.call(Call::Form, (0, 3), (0, 3), Err("bytes"), name);
+        assert_eq!(report.differences(), 3);
+        assert!(report
+            .shown()
+            .contains("word: 0 cases, 3 calls (yes 2, no 12: 1)"));
+        assert!(report.shown().ends_with("4 calls, 3 differences\n"));
+    }
+}

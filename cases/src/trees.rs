@@ -1,0 +1,133 @@
+//! A table text and a tree (word), and the same with the table opened once (find).
+
+use fadurinko::lent;
+use fadurinko_second::gen::trees;
+use fadurinko_second::hex;
+use fadurinko_second::refusal::{Refusal, ROOM};
+use fadurinko_second::table::{self, Table};
+use fadurinko_second::walk::{Found, Walker};
+
+use crate::opened::Opened;
+use crate::report::{Call, Report};
+use crate::room::Rooms;
+
+/// A generated table and its trees, of which the next one is at `line`.
+struct Case {
+    seed: u64,
+    index: usize,
+    text: Vec<u8>,
+    table: Result<Table, Refusal>,
+    trees: Vec<Vec<u8>>,
+    line: usize,
+}
+
+impl Case {
+    fn new(seed: u64, index: usize) -> Case {
+        let case = trees::case(seed, index);
+        let closed = case.lines.strip_suffix(b"\n").unwrap_or(&case.lines);
+        let lines = closed.split(|&byte| byte == b'\n');
+        Case {
+            seed,
+            index,
+            table: table::read(&case.table),
+            text: case.table,
+            // A line that is not hexadecimal stands for itself.
+            trees: lines
+                .map(|line| hex::decode(line).unwrap_or(line.to_vec()))
+                .collect(),
+            line: 0,
+        }
+    }
+
+    fn name(&self) -> String {
+        format!(
+            "seed {}, trees {}, line {}",
+            self.seed, self.index, self.line
+        )
+    }
+}
+
+pub struct Trees {
+    opened: Opened,
+    case: Case,
+    word: Vec<u8>,
+}
+
+/// The number, and the length or place with the terms.
+type Answer = (u8, [usize; 2]);
+
+impl Trees {
+    pub fn new(seed: u64) -> Trees {
+        Trees {
+            opened: Opened::new(seed),
+            case: Case::new(seed, 0),
+            word: Vec::new(),
+        }
+    }
+
+    /// The next tree; a new table where the last one's trees are used up.
+    pub fn next(&mut self, rooms: &mut Rooms, report: &mut Report) {
+        if self.case.line == self.case.trees.len() {
+            self.case = Case::new(self.case.seed, self.case.index + 1);
+        }
+        if self.case.line == 0 {
+            self.open(report);
+        }
+        let found = match &self.case.table {
+            Ok(table) => Walker::new(table).word(&self.case.trees[self.case.line], &mut self.word),
+            Err(refusal) => Err(*refusal),
+        };
+        let lengths = match found {
+            Ok(found) => rooms.lengths(found.length),
+            Err(_) => rooms.lengths_for_nothing().to_vec(),
+        };
+        report.input(Call::Word);
+        if self.case.table.is_ok() {
+            report.input(Call::Find);
+        }
+        for length in lengths {
+            self.in_a_room(length, found, rooms, report);
+        }
+        self.case.line += 1;
+    }
+
+    fn open(&mut self, report: &mut Report) {
+        let theirs = match &self.case.table {
+            Ok(_) => (0, 0),
+            Err(refusal) => (refusal.number, refusal.place),
+        };
+        let (number, place, left_alone) = self.opened.open(&self.case.text);
+        report.input(Call::Open);
+        report.call(Call::Open, (number, place), theirs, left_alone, || {
+            self.case.name()
+        });
+    }
+
+    fn in_a_room(
+        &mut self,
+        length: usize,
+        found: Result<Found, Refusal>,
+        rooms: &mut Rooms,
+        report: &mut Report,
+    ) {
+        let case = &self.case;
+        let tree = &case.trees[case.line];
+        let (theirs, output): (Answer, &[u8]) = match found {
+            Ok(found) if found.length <= length => ((0, [found.length, found.terms]), &self.word),
+            Ok(found) => ((ROOM, [found.length, 0]), b""),
+            Err(refusal) => ((refusal.number, [refusal.place, 0]), b""),
+        };
+        let name = || format!("{}, room {length}", case.name());
+
+        let [mut count, mut terms] = [usize::MAX; 2];
+        let number = lent::word(&case.text, tree, rooms.lend(length), &mut count, &mut terms);
+        let mine = (number, [count, terms]);
+        report.call(Call::Word, mine, theirs, rooms.holds(output), name);
+
+        if case.table.is_ok() {
+            let mine = self.opened.find(tree, rooms.lend(length));
+            let bytes = rooms.holds(output).and(self.opened.is_as_opened());
+            report.call(Call::Find, mine, theirs, bytes, name);
+        }
+    }
+}
