@@ -91,8 +91,8 @@ uint8_t fadurinko_form(const uint8_t *text, size_t text_length, uint8_t *room, s
 uint8_t fadurinko_compare(const uint8_t *first, size_t first_length, const uint8_t *second,
                           size_t second_length, size_t *same, size_t *table, size_t *place);
 /* The arrays have FADURINKO_FRAMES, FADURINKO_ENTRIES, FADURINKO_HEAD and FADURINKO_PLAN entries.
- * What the last two calls answer means something only for arrays that fadurinko_open wrote; others do
- * no harm outside the room, but the call may then take very long. What stands in the plan before a
+ * What the last two calls answer means something only for arrays that fadurinko_open wrote; with
+ * others they come to an end too and do no harm outside the room. What stands in the plan before a
  * call makes no difference. */
 uint8_t fadurinko_open(const uint8_t *text, size_t text_length, uint8_t *frames, uint64_t *index,
                        size_t *head, size_t *place);

@@ -6,8 +6,8 @@
 //! in memory of its own.
 //!
 //! All of them are safe to call with any bytes: the proofs ask nothing of what is lent. What `find`
-//! and `judge_opened` answer means something only for arrays that `open` wrote; with others they may
-//! also take very long, since the head says how many rules there are.
+//! and `judge_opened` answer means something only for arrays that `open` wrote; with others they come
+//! to an end too, and do no harm outside the room.
 //!
 //! What is lent to be written overlaps with nothing else, since the references say so. This does
 //! not compile:

@@ -1,12 +1,17 @@
 -- What the calls answer is what is handed out for the paper's answers. Assumes nothing.
-use mathlib.Core.Path.{_≡_, refl, ap, subst, _∙_}
+use mathlib.Core.Path.{_≡_, refl, sym, ap, subst, _∙_}
+use mathlib.Core.Bool.{true, false}
 use mathlib.Core.List.{List}
-use Prim.Native.Nat.{ℕ}
+use Prim.Native.Nat.{ℕ, _<_, _≤_}
+use native.Mathlib.Omega.{arith}
+use borrow.Author.Tests.{lt-ltb, le-ltb}
 use lib.ListN.{length}
 use Rattle.words.specs.Word.{Word}
 use Rattle.words.specs.Reply.{Reply, given, refused, mapped}
 use Rattle.machine.specs.Machine.{Table}
 use Rattle.promises.specs.Word.{Letters, lettersOf}
+use Rattle.layout.specs.Layout.{Opened}
+use Rattle.layout.specs.Leaves.{headOf}
 use Rattle.layout.specs.declared.Head.{Head}
 use Rattle.layout.specs.declared.Refusal.{Refusal}
 use Rattle.table.specs.Opening.{Opens, Unchanged}
@@ -16,7 +21,7 @@ use Rattle.finder.specs.declared.Found.{Found}
 use Rattle.finder.specs.Answer as word
 use Rattle.former.specs.declared.Formed.{Formed}
 use Rattle.former.specs.Formed as form
-use Rattle.fadurinko_c.specs.Linked.{numberOf, firstOf, furtherOf, numbersOf, headFrom, WordLinked, FormLinked, OpenLinked}
+use Rattle.fadurinko_c.specs.Linked.{numberOf, firstOf, furtherOf, numbersOf, fewer, headFrom, WordLinked, FormLinked, OpenLinked}
 
 -- What is handed out stays where a yes gets another value.
 number-mapped : {A B : Type 0} (f : A → B) (a : Reply A) → numberOf (mapped f a) ≡ numberOf a
@@ -72,6 +77,13 @@ module _ {F I H F′ I′ : List ℕ} where
       go (given M) o u = absurd o
       go (refused n p) o u = record { told = o .0; place = o .1; lent = (u .0, u .1, refl) }
 
--- The seven numbers of a head give it again.
-pub head-again : {N : List ℕ} {r : Head} (h : Head) → r ≡ headFrom N → N ≡ numbersOf h → r ≡ h
-head-again h er e = er ∙ ap headFrom e
+-- A number up to 512 stays; a greater one becomes 512.
+pub fewer-same : (n : ℕ) → n ≤ 512 → n ≡ fewer n
+fewer-same n h = sym (ap (λ t. elim t as (λ x. ℕ) [ true ↦ n | false ↦ 512 ]) (lt-ltb n 513 (omega (arith, h))))
+
+pub fewer-most : (n : ℕ) → 512 < n → 512 ≡ fewer n
+fewer-most n h = sym (ap (λ t. elim t as (λ x. ℕ) [ true ↦ n | false ↦ 512 ]) (le-ltb n 513 (omega (arith, h))))
+
+-- The seven numbers of an opened table's head give it again.
+pub head-again : {F I N : List ℕ} {r : Head} (M : Table) → Opened F I M → r ≡ headFrom N → N ≡ numbersOf (headOf M) → r ≡ headOf M
+head-again M o er e = er ∙ ap headFrom e ∙ ap (λ n. record { symbols = headOf M .symbols; states = headOf M .states; start = headOf M .start; before = headOf M .before; after = headOf M .after; rows = headOf M .rows; rules = n }) (sym (fewer-same (headOf M .rules) (o .limited .rows)))

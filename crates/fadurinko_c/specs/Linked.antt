@@ -1,7 +1,9 @@
 -- What a linked call hands out for each answer of the paper: its number is returned, 0 for a yes, and the rest goes through references. Definitions only.
 use mathlib.Core.Path.{_≡_}
+use mathlib.Core.Bool.{true, false}
 use mathlib.Core.List.{List, [], _∷_}
 use Prim.Native.Nat.{ℕ}
+use lib.Dec.{ltb}
 use lib.ListN.{length, getD}
 use Rattle.words.specs.Word.{Word, terms}
 use Rattle.words.specs.Reply.{Reply, given, refused}
@@ -96,7 +98,11 @@ pub record ComparedLinked (one two : List ℕ) (number alike about at : ℕ) : T
 abbrev pub numbersOf : Head → List ℕ
 numbersOf h = h .symbols ∷ h .states ∷ h .start ∷ h .before ∷ h .after ∷ h .rows ∷ h .rules ∷ []
 
--- The head whose numbers lie there, 0 past the end.
+-- A number of rules, at most 512: no opened table has more.
+abbrev pub fewer : ℕ → ℕ
+fewer n = elim (ltb n 513) [ true ↦ n | false ↦ 512 ]
+
+-- The head whose numbers lie there, 0 past the end, with at most 512 rules.
 abbrev pub headFrom : List ℕ → Head
 headFrom N =
     record {
@@ -106,7 +112,7 @@ headFrom N =
       before = getD N 3 0;
       after = getD N 4 0;
       rows = getD N 5 0;
-      rules = getD N 6 0;
+      rules = fewer (getD N 6 0);
     }
 
 -- What was lent, F, I and H, becomes the opened table and its numbers, with nothing but 0 behind its frames; for a no it stays as it was.

@@ -19,7 +19,7 @@ ghost use Rattle.promises.specs.Judgement.{JudgementAnswer};
 ghost use Rattle.layout.specs.Layout.{Opened};
 ghost use Rattle.layout.specs.Leaves.{headOf};
 ghost use Rattle.finder.specs.Answer.{said};
-ghost use Rattle.fadurinko_c.specs.Linked.{numberOf, firstOf, furtherOf, numbersOf, headFrom, WordLinked, FormLinked, JudgedLinked, ComparedLinked, OpenLinked};
+ghost use Rattle.fadurinko_c.specs.Linked.{numberOf, firstOf, furtherOf, numbersOf, fewer, headFrom, WordLinked, FormLinked, JudgedLinked, ComparedLinked, OpenLinked};
 
 // The number of the refusal, or 0.
 fn number_of(found: Found) -> u8
@@ -179,6 +179,14 @@ fn number_at(numbers: &[usize], i: usize) -> usize
     if i < numbers.len() { numbers[i] } else { 0 }
 }
 
+// A number of rules, at most 512: no opened table has more, and a caller's made-up number must not
+// keep the judgement busy.
+fn few_rules(n: usize) -> usize
+    ensures { λ r. ⌜ r ≡ fewer n ⌝ }
+{
+    if n <= 512 { n } else { 512 }
+}
+
 // An opened table's numbers, taken up again.
 fn head_of(numbers: &[usize]) -> Head
     ensures { λ r. ⌜ r ≡ headFrom (now (numbers .entry)) ⌝ }
@@ -190,7 +198,7 @@ fn head_of(numbers: &[usize]) -> Head
         before: number_at(numbers, 3),
         after: number_at(numbers, 4),
         rows: number_at(numbers, 5),
-        rules: number_at(numbers, 6),
+        rules: few_rules(number_at(numbers, 6)),
     }
 }
 

@@ -1,5 +1,4 @@
 -- `fadurinko_find` meets its contract: the head is taken up again, and what the word call answers is handed out. Assumes nothing.
-use Rattle.layout.specs.Leaves.{headOf}
 use Rattle.fadurinko_c.proofs.Handing.{word-linked, head-again}
 use borrow.Author.Needs.{needs}
 use Rattle.fadurinko_c.proofs.fadurinko_find.Statement.{statement}
@@ -28,7 +27,7 @@ returns c =
     let answer = c .before .before .before .before .before .find in
     let head = c .before .before .before .before .before .before .before .before .head-of in
     λ M o numbers.
-    word-linked (answer .ensures M o (head-again (headOf M) (head .ensures) numbers)) (c .number-of .ensures) (c .before .before .count-of .ensures) (c .before .terms-of .ensures)
+    word-linked (answer .ensures M o (head-again M o (head .ensures) numbers)) (c .number-of .ensures) (c .before .before .count-of .ensures) (c .before .terms-of .ensures)
 
 pub fadurinko-find-spec : {M : Type 1} → statement M
 fadurinko-find-spec =

@@ -1,5 +1,4 @@
 -- `fadurinko_judge_opened` meets its contract: the head is taken up again, and the verdict's number and place are handed out. Assumes nothing.
-use Rattle.layout.specs.Leaves.{headOf}
 use Rattle.verdict.specs.Judgement.{verdictOf}
 use Rattle.fadurinko_c.proofs.Handing.{head-again}
 use borrow.Author.Needs.{needs}
@@ -24,7 +23,7 @@ returns c =
     let head = c .before .before .before .before .head-of in
     let e = c .enum-told .given .1 in
     λ I M o numbers.
-    record { verdict = verdictOf (answer .result); answer = answer .ensures I M o (head-again (headOf M) (head .ensures) numbers); told = rw e; place = rw e }
+    record { verdict = verdictOf (answer .result); answer = answer .ensures I M o (head-again M o (head .ensures) numbers); told = rw e; place = rw e }
 
 returns-2 : tie.Need-returns-2
 returns-2 c =
@@ -32,7 +31,7 @@ returns-2 c =
     let head = c .before .before .before .before .before .head-of in
     let e = c .before .judged .given .1 in
     λ I M o numbers.
-    record { verdict = verdictOf (answer .result); answer = answer .ensures I M o (head-again (headOf M) (head .ensures) numbers); told = rw e; place = rw e }
+    record { verdict = verdictOf (answer .result); answer = answer .ensures I M o (head-again M o (head .ensures) numbers); told = rw e; place = rw e }
 
 pub fadurinko-judge-opened-spec : {M : Type 1} → statement M
 fadurinko-judge-opened-spec =

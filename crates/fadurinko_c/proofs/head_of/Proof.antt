@@ -24,16 +24,20 @@ number-at-requires-6 c κs = search needs
 number-at-requires-7 : tie.Need-number-at-requires-7
 number-at-requires-7 c κs = search needs
 
+few-rules-requires : tie.Need-few-rules-requires
+few-rules-requires c κs = search needs
+
 returns : tie.Need-returns
 returns c =
     cc (
-      c .before .before .before .before .before .before .number-at .ensures,
-      c .before .before .before .before .before .number-at2 .ensures,
-      c .before .before .before .before .number-at3 .ensures,
-      c .before .before .before .number-at4 .ensures,
-      c .before .before .number-at5 .ensures,
-      c .before .number-at6 .ensures,
-      c .number-at7 .ensures,
+      c .before .before .before .before .before .before .before .number-at .ensures,
+      c .before .before .before .before .before .before .number-at2 .ensures,
+      c .before .before .before .before .before .number-at3 .ensures,
+      c .before .before .before .before .number-at4 .ensures,
+      c .before .before .before .number-at5 .ensures,
+      c .before .before .number-at6 .ensures,
+      c .before .number-at7 .ensures,
+      c .few-rules .ensures,
     )
 
 pub head-of-spec : {M : Type 1} → statement M
@@ -47,4 +51,5 @@ head-of-spec =
     number-at-requires-5
     number-at-requires-6
     number-at-requires-7
+    few-rules-requires
     returns)
