@@ -1,5 +1,5 @@
 -- What is written from the bytes of an opened table is the form's text.
-use mathlib.Core.Path.{_≡_, refl, sym, ap, ap₂, subst, _∙_}
+use mathlib.Core.Path.{_≡_, refl, sym, ap, ap₂, _∙_}
 use mathlib.Core.List.{List, [], _∷_, _++_, map, append-assoc, append-nil, map-append}
 use mathlib.Core.Option.{Option, none, some}
 use Prim.Native.Nat.{ℕ, zero, suc, _+_, _<_}
@@ -13,9 +13,9 @@ use Rattle.machine.specs.Form.{rowsOf, renumber, renumbered}
 use Rattle.normal.specs.Listed.{numberedRest}
 use Rattle.text.specs.Lines.{lineOf}
 use Rattle.text.specs.Writing.{textOf, childrenText, rowFrame, rowLines}
-use Rattle.layout.specs.Leaves.{behindAt, PlaceOf, LookedUp, Tame}
+use Rattle.text.proofs.Stages.{rows-append}
+use Rattle.layout.specs.Leaves.{behindAt, PlaceOf, LookedUp}
 use Rattle.layout.specs.declared.Place.{Place}
-use Rattle.layout.specs.declared.Lookup.{Lookup}
 use Rattle.layout.specs.declared.Lookup.the-variants.{Found, Missing}
 use Rattle.layout.proofs.Stretches.{first-word, first-behind, child-state, child-word, child-behind}
 use Rattle.canon.specs.Room.{Wrote}
@@ -23,13 +23,6 @@ use Rattle.canon.specs.Bytes.{textAt, childrenAt, placeAt, statesAt, row
 use Rattle.canon.specs.Visiting.{rowOf, rowsBelow, ChildrenIn}
 use Rattle.canon.proofs.Room.{wrote-none, wrote-then, wrote-as}
 use Rattle.canon.proofs.Below.{rows-below}
-
--- What is known of an answer is known of one that is the same.
-pub looked-as : (F : List ℕ) (o : Option Rule) {x y : Lookup} → x ≡ y → LookedUp F o x → LookedUp F o y
-looked-as F o e l = subst (λ (z : Lookup). LookedUp F o z) e l
-
-pub tame-as : {x y : Lookup} → x ≡ y → Tame x → Tame y
-tame-as e t = subst Tame e t
 
 module _ (F : List ℕ) where
   -- The children that stand at p, by their numbers.
@@ -64,12 +57,6 @@ module _ (F : List ℕ) where
       ∙ ap₂ (λ (t s : List ℕ). 3 ∷ i ∷ f ∷ t ++ s) (ap textOf (first-word F (p .at) r (h .there)))
       (children-there N number (r .rest) (behindAt F (p .at)) (h .there .behind) (first-behind F (p .at) r (h .there)) k)
 
--- The lines of two lists of rows, one behind the other.
-pub lines-append : (xs ys : List Row) → rowLines (xs ++ ys) ≡ rowLines xs ++ rowLines ys
-unfolding rowLines
-lines-append [] ys = refl
-lines-append (x ∷ xs) ys = ap (λ (l : List ℕ). lineOf (rowFrame x) ++ l) (lines-append xs ys) ∙ sym (append-assoc (lineOf (rowFrame x)) (rowLines xs) (rowLines ys))
-
 -- The line of a rule that was found.
 pub rule-found : (F N : List ℕ) {R S : List ℕ} {at next : ℕ} (q f i : ℕ) (M : Table) (number : ℕ → ℕ) → ChildrenIn N number M q → (g h : ℕ) (p : Place) → g ≡ i → h ≡ f
     → LookedUp F (find (M .rows) q f) (Found p) → Wrote R at (lineOf (rowAt F N g h (p .kids) (p .at))) S next
@@ -101,7 +88,7 @@ pub rules-more : {R S T : List ℕ} {a b c : ℕ} (number : ℕ → ℕ) (q f i 
 unfolding rowsBelow
 rules-more number q f i g w v =
     wrote-as
-    (sym (lines-append (map (renumber number i) (rowsBelow q g f)) (map (renumber number i) (rowOf q f (g f))))
+    (sym (rows-append (map (renumber number i) (rowsBelow q g f)) (map (renumber number i) (rowOf q f (g f))))
     ∙ ap rowLines (sym (map-append (renumber number i) (rowsBelow q g f) (rowOf q f (g f)))) ∙ ap (λ (n : ℕ). rowLines (map (renumber number i) (rowsBelow q g n))) (sym (add-one f)))
     (wrote-then w v)
 
@@ -138,7 +125,7 @@ states-more number M W O i q n h e d w v =
     wrote-as
     (ap₂ (λ (p k : ℕ). rowLines (renumbered number (M .rows) zero (take i O)) ++ rowLines (map (renumber number i) (rowsBelow p (find (M .rows) p) k))) e d
     ∙ ap (λ (l : List Row). rowLines (renumbered number (M .rows) zero (take i O)) ++ rowLines (map (renumber number i) l)) (sym (rows-below M W (getD O i 0)))
-    ∙ sym (lines-append (renumbered number (M .rows) zero (take i O)) (map (renumber number i) (rowsOf (M .rows) (getD O i 0))))
+    ∙ sym (rows-append (renumbered number (M .rows) zero (take i O)) (map (renumber number i) (rowsOf (M .rows) (getD O i 0))))
     ∙ ap rowLines (renumbered-more number (M .rows) O i h))
     (wrote-then w v)
 

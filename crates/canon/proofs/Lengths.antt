@@ -17,8 +17,9 @@ use Rattle.layout.specs.declared.Place.{Place}
 use Rattle.layout.specs.declared.Lookup.the-variants.{Found, Missing}
 use Rattle.canon.specs.Visiting.{rowOf, rowsBelow}
 use Rattle.text.proofs.Lines.{length-line}
+use Rattle.text.proofs.Stages.{rows-append}
 use Rattle.canon.proofs.Below.{rows-below}
-use Rattle.canon.proofs.Frames.{lines-append, renumbered-more}
+use Rattle.canon.proofs.Frames.{renumbered-more}
 
 -- The children of a rule, by any numbers.
 length-children : (number : ℕ → ℕ) (cs : List Child) → length (childrenText (numberedRest number cs)) ≡ 2 * length cs + restLetters cs
@@ -61,7 +62,7 @@ rules-longer number q f i g a b d e =
     let xs : List Row = map (renumber number i) (rowsBelow q g f) in
     let ys : List Row = map (renumber number i) (rowOf q f (g f)) in
     let s : rowLines (map (renumber number i) (rowsBelow q g (f + 1))) ≡ rowLines xs ++ rowLines ys =
-    ap (λ (n : ℕ). rowLines (map (renumber number i) (rowsBelow q g n))) (add-one f) ∙ ap rowLines (map-append (renumber number i) (rowsBelow q g f) (rowOf q f (g f))) ∙ lines-append xs ys in
+    ap (λ (n : ℕ). rowLines (map (renumber number i) (rowsBelow q g n))) (add-one f) ∙ ap rowLines (map-append (renumber number i) (rowsBelow q g f) (rowOf q f (g f))) ∙ rows-append xs ys in
     omega (arith, ap length s, length-append (rowLines xs) (rowLines ys))
 
 -- One state more.
@@ -74,7 +75,7 @@ states-longer number M W O i q n a b h e d x y =
     let z : rowsBelow q (find (M .rows) q) n ≡ rowsOf (M .rows) (getD O i 0) =
     ap (λ (k : ℕ). rowsBelow q (find (M .rows) q) k) d ∙ sym (rows-below M W q) ∙ ap (λ (k : ℕ). rowsOf (M .rows) k) e in
     let w : b ≡ length (rowLines ys) = y ∙ ap (λ (l : List Row). length (rowLines (map (renumber number i) l))) z in
-    omega (arith, ap length (sym (lines-append xs ys) ∙ ap rowLines (renumbered-more number (M .rows) O i h)), length-append (rowLines xs) (rowLines ys))
+    omega (arith, ap length (sym (rows-append xs ys) ∙ ap rowLines (renumbered-more number (M .rows) O i h)), length-append (rowLines xs) (rowLines ys))
 
 -- The symbols' lines.
 length-symbol-lines : (xs : List ℕ) → length (symbolLines xs) ≡ 5 * length xs

@@ -4,6 +4,7 @@ use mathlib.Core.Bool.{Bool}
 use mathlib.Core.Logic.{_↔_}
 use mathlib.Core.List.{List, [], _∷_, _++_}
 use Prim.Native.Nat.{ℕ, zero, suc, _+_, _-_, _<_}
+use native.Mathlib.Numerals.{sub-one}
 use native.Mathlib.Omega.{arith}
 use lib.ListN.{length, getD, drop}
 use Rattle.words.specs.Word.{spaces}
@@ -18,10 +19,6 @@ use Rattle.layout.specs.declared.Place.{Place}
 use Rattle.layout.proofs.Stretches.{first-word, first-behind, child-state, child-word, child-behind}
 use Rattle.classes.specs.Rounds.{Alike, AlikeAt, RestsAt, SameRule}
 
--- One less than one more.
-one-less : (k : ℕ) → suc k - 1 ≡ k
-one-less k = omega arith
-
 module _ (F rep : List ℕ) where
   -- One child compared, and then those behind it.
   abbrev pub StepAt : ℕ → ℕ → ℕ → Type 0
@@ -31,13 +28,13 @@ module _ (F rep : List ℕ) where
   pub rests-at-step : (k x y : ℕ) → 0 < k → StepAt k x y → RestsAt F rep k x y
   unfolding RestsAt
   rests-at-step zero x y h s = absurd (omega arith)
-  rests-at-step (suc k) x y h s = (s .0, s .1, subst (λ (n : ℕ). RestsAt F rep n (behindAt F (x + 1)) (behindAt F (y + 1))) (one-less k) (s .2))
+  rests-at-step (suc k) x y h s = (s .0, s .1, subst (λ (n : ℕ). RestsAt F rep n (behindAt F (x + 1)) (behindAt F (y + 1))) (sub-one (suc k)) (s .2))
 
   -- And the other way round.
   pub step-rests-at : (k x y : ℕ) → 0 < k → RestsAt F rep k x y → StepAt k x y
   unfolding RestsAt
   step-rests-at zero x y h s = absurd (omega arith)
-  step-rests-at (suc k) x y h s = (s .0, s .1, subst (λ (n : ℕ). RestsAt F rep n (behindAt F (x + 1)) (behindAt F (y + 1))) (sym (one-less k)) (s .2))
+  step-rests-at (suc k) x y h s = (s .0, s .1, subst (λ (n : ℕ). RestsAt F rep n (behindAt F (x + 1)) (behindAt F (y + 1))) (sym (sub-one (suc k))) (s .2))
 
   -- One child further on: where the first children are alike, those behind them settle it.
   pub rests-at-move : {P : Type 0} (k x y x′ y′ : ℕ) → 0 < k → AlikeAt F rep x y → wordAt F (x + 1) ≡ wordAt F (y + 1) → x′ ≡ behindAt F (x + 1)

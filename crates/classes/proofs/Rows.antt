@@ -13,21 +13,13 @@ use Rattle.machine.specs.Machine.{Rule, Table, WellMade, find}
 use Rattle.machine.specs.Twins.{Rules, Match}
 use Rattle.machine.proofs.Find.{find-fits}
 use Rattle.layout.specs.Layout.{Opened}
-use Rattle.layout.specs.Leaves.{entryAt, PlaceOf, LookedUp, Tame}
+use Rattle.layout.specs.Leaves.{entryAt, PlaceOf, LookedUp}
 use Rattle.layout.specs.declared.Place.{Place}
 use Rattle.layout.specs.declared.Lookup.{Lookup}
 use Rattle.layout.specs.declared.Lookup.the-variants.{Found, Missing}
 use Rattle.layout.proofs.Entries.{entry-none}
-use Rattle.layout.proofs.Lookups.{missing-right}
+use Rattle.layout.proofs.Lookups.{looked-as, missing-right}
 use Rattle.classes.specs.Rounds.{Alike, SameRule}
-
--- What was looked up, where the answer is known.
-looked-as : (F : List ℕ) (a : Option Rule) {l m : Lookup} → l ≡ m → LookedUp F a l → LookedUp F a m
-looked-as F a e h = subst (λ (k : Lookup). LookedUp F a k) e h
-
--- Its bounds, where the answer is known.
-pub tame-as : {l m : Lookup} → l ≡ m → Tame l → Tame m
-tame-as e h = subst (λ (k : Lookup). Tame k) e h
 
 module _ (F rep : List ℕ) (a b : Option Rule) where
   -- Neither rule is there.

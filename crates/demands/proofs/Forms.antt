@@ -2,11 +2,11 @@
 use mathlib.Core.Path.{_≡_, refl, sym, ap, subst, _∙_}
 use mathlib.Core.List.{List}
 use mathlib.Core.Logic.{_↔_}
-use mathlib.Core.Option.{none}
 use Prim.Native.Nat.{ℕ, _≤_}
 use lib.ListN.{length}
-use Rattle.words.specs.Reply.{Reply, given, refused}
-use Rattle.machine.specs.Machine.{Table, WellMade}
+use Rattle.words.specs.Reply.{given}
+use Rattle.words.proofs.Replies.{given-injective}
+use Rattle.machine.specs.Machine.{Table}
 use Rattle.machine.specs.Earliest.{Earliest}
 use Rattle.machine.specs.Verdict.{earliest}
 use Rattle.machine.specs.Same.{Agree}
@@ -17,10 +17,10 @@ use Rattle.text.specs.Reading.{readTable}
 use Rattle.text.specs.Writing.{writeTable, Limited}
 use Rattle.text.proofs.Back.{write-read, read-limited}
 use Rattle.text.proofs.Forth.{read-write}
-use Rattle.text.proofs.RoundTrip.{write-injective, given-injective}
+use Rattle.text.proofs.RoundTrip.{write-injective}
 use Rattle.canon.proofs.Short.{form-short, form-limited}
 use Rattle.promises.specs.Form.{FormOfText, FormText}
-use Rattle.promises.specs.Comparison.{Comparison, same, different, parting, Forms, ComparisonAnswer}
+use Rattle.promises.specs.Comparison.{same, different, ComparisonAnswer}
 use Rattle.demands.proofs.Judgement.{judged-as}
 
 -- What a text's form says of the table M that the text is read as.

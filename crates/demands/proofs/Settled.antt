@@ -6,13 +6,13 @@ use Prim.Native.Nat.{ℕ, zero, suc}
 use native.Mathlib.Omega.{arith}
 use borrow.Author.Tests.{eq-eqb}
 use Rattle.words.specs.Reply.{Reply, given, refused}
+use Rattle.words.proofs.Replies.{given-injective}
 use Rattle.machine.specs.Machine.{Table}
 use Rattle.machine.specs.Verdict.{earliest, late}
 use Rattle.machine.specs.Form.{IsForm}
 use Rattle.normal.proofs.Unique.{form-unique}
 use Rattle.text.specs.Writing.{writeTable}
 use Rattle.text.proofs.Back.{read-limited}
-use Rattle.text.proofs.RoundTrip.{given-injective}
 use Rattle.promises.specs.Room.{into}
 use Rattle.promises.specs.Judgement.{JudgementAnswer}
 use Rattle.promises.specs.Form.{FormOfText, FormText, FormAnswer}

@@ -1,47 +1,13 @@
 -- Number fields: what the bytes at a place give, and what an answer says of them.
-use mathlib.Core.Path.{_≡_, refl, _∙_}
-use mathlib.Core.Bool.{Bool, false}
-use mathlib.Core.List.{List, [], _∷_}
+use mathlib.Core.Path.{_≡_, refl}
+use mathlib.Core.List.{List}
 use Prim.Native.Nat.{ℕ, _+_, _<_, _≤_}
 use native.Mathlib.Omega.{arith}
-use borrow.Author.Tests.{lt-leb, le-leb, le-ltb}
-use lib.Dec.{leb, ltb}
 use lib.Seq.{slice}
-use Rattle.text.specs.Fields.{Parsed, got, fault, Field, andThen, check, within, below}
-use Rattle.text.proofs.Fields.{check-got}
+use Rattle.text.specs.Fields.{Parsed, got, fault}
 use Rattle.fields.specs.Read.{Number, NumberRead}
 use Rattle.fields.specs.declared.Field as declared
 use Rattle.fields.specs.declared.Field.the-variants as field
-
--- ---- what is refused
-
--- A test that does not hold refuses.
-pub check-fault : {B : Type 0} (t : Bool) (n : ℕ) (k : Unit {0} → Field B) (bs : List ℕ) → t ≡ false → andThen (check t n bs) k ≡ fault n
-check-fault t n k bs e = rw e
-
--- No byte is left.
-pub within-lacking : (least most : ℕ) (bs : List ℕ) → bs ≡ [] → within least most bs ≡ fault 5
-unfolding within
-within-lacking least most bs e = rw e
-
-pub below-lacking : (n : ℕ) (bs : List ℕ) → bs ≡ [] → below n bs ≡ fault 5
-unfolding below
-below-lacking n bs e = rw e
-
--- The number is below its range.
-pub within-low : (least most b : ℕ) (rest : List ℕ) → b < least → within least most (b ∷ rest) ≡ fault 4
-unfolding within
-within-low least most b rest h = check-fault (leb least b) 4 _ rest (lt-leb least b h)
-
--- The number is above its range.
-pub within-high : (least most b : ℕ) (rest : List ℕ) → least ≤ b → most < b → within least most (b ∷ rest) ≡ fault 4
-unfolding within
-within-high least most b rest h k = check-got (leb least b) 4 _ rest (le-leb least b h) ∙ check-fault (leb b most) 4 _ rest (lt-leb b most k)
-
--- The number is not below n.
-pub below-high : (n q : ℕ) (rest : List ℕ) → n ≤ q → below n (q ∷ rest) ≡ fault 4
-unfolding below
-below-high n q rest h = check-fault (ltb q n) 4 _ rest (le-ltb q n h)
 
 -- ---- from what is read to the answer
 

@@ -3,12 +3,12 @@ use mathlib.Core.Path.{_≡_, refl, sym, ap, _∙_}
 use mathlib.Core.List.{List}
 use Prim.Native.Nat.{ℕ, _+_, _-_, _<_, _≤_}
 use native.Mathlib.Omega.{arith}
-use borrow.Author.Tests.{le-leb, lt-leb}
-use lib.ListN.{length, take, drop}
+use lib.ListN.{length}
 use lib.Seq.{slice, length-slice, length-take-le}
 use Rattle.words.specs.Word.{Word}
 use Rattle.text.specs.Fields.{Parsed, got, fault, within, letters, text}
 use Rattle.text.proofs.Fields.{then-got, within-inv}
+use Rattle.text.proofs.Faults.{letters-there, letters-lacking}
 use Rattle.fields.specs.Read.{Stretch, WordRead}
 use Rattle.fields.specs.declared.Field as declared
 use Rattle.fields.specs.declared.Field.the-variants as field
@@ -21,16 +21,6 @@ use Rattle.fields.proofs.Numbers.{IsNumber}
 pub text-length : (bs : List ℕ) (k : ℕ) → within 0 32 bs ≡ fault k → text bs ≡ fault k
 unfolding text
 text-length bs k e = rw e
-
--- A letter is lacking.
-pub letters-lacking : (n : ℕ) (bs : List ℕ) → length bs < n → letters n bs ≡ fault 5
-unfolding letters
-letters-lacking n bs h = rw (lt-leb n (length bs) h, letters)
-
--- So many letters are read.
-pub letters-got : (n : ℕ) (bs : List ℕ) → n ≤ length bs → letters n bs ≡ got (take n bs) (drop n bs)
-unfolding letters
-letters-got n bs h = rw (le-leb n (length bs) h, letters)
 
 module _ (F : List ℕ) (at end v then : ℕ) (inside : end ≤ length F) (i : IsNumber F at end v then (within 0 32 (slice at end F))) where
   -- Behind the length stand the letters.
@@ -46,7 +36,7 @@ module _ (F : List ℕ) (at end v then : ℕ) (inside : end ≤ length F) (i : I
   pub word-got : v ≤ end - then → WordRead F at end (text (slice at end F)) (field.Got v (then + v))
   word-got h =
       let k : v ≤ length (slice then end F) = omega (arith, length-slice then end F inside) in
-      rw (text-letters, letters-got v (slice then end F) k)
+      rw (text-letters, letters-there v (slice then end F) k)
       (record {
         value = sym (length-take-le v (slice then end F) k);
         short = within-inv 0 32 (slice at end F) v (slice then end F) (i .read) .1;

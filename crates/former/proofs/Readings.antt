@@ -4,6 +4,7 @@ use mathlib.Core.List.{List}
 use Prim.Native.Nat.{ℕ}
 use lib.ListN.{length}
 use Rattle.words.specs.Reply.{Reply, given, refused}
+use Rattle.words.proofs.Replies.{given-injective}
 use Rattle.machine.specs.Machine.{Table}
 use Rattle.machine.specs.Earliest.{Earliest}
 use Rattle.machine.specs.Verdict.{Verdict, earliest, late}
@@ -104,10 +105,7 @@ judged-answers F I T R o head j x r e h k ej er =
 
 -- The number of symbols of the table that was read.
 symbols-told : (T : List ℕ) (M : Table) (r : Formed) → readTable T ≡ given M → ((n s : ℕ) → r ≡ formed.Form n s → s ≡ length (M .arities)) → SymbolsTold T r
-symbols-told T M (formed.Form n s) e h = λ N d. h n s refl ∙ ap (λ (A : Table). length (A .arities)) (given-one M N (sym e ∙ d))
-  where
-    given-one : (A B : Table) → given A ≡ given B → A ≡ B
-    given-one A B g = cc
+symbols-told T M (formed.Form n s) e h = λ N d. h n s refl ∙ ap (λ (A : Table). length (A .arities)) (given-injective M N (sym e ∙ d))
 symbols-told T M (formed.Refused x) e h = tt
 
 -- The form call of an earliest table's text, by any reading of it.

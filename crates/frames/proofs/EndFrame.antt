@@ -4,7 +4,7 @@ use mathlib.Core.List.{List, [], _∷_, _++_}
 use Prim.Native.Nat.{ℕ, _+_, _<_, _≤_}
 use native.Mathlib.Omega.{arith}
 use lib.ListN.{length, getD, take}
-use lib.Seq.{slice, length-take-le}
+use lib.Seq.{slice}
 use Rattle.machine.specs.Machine.{Table}
 use Rattle.text.specs.Frames as text
 use Rattle.layout.specs.Layout.{rowFrames, headFrames, framesOf}
@@ -12,8 +12,7 @@ use Rattle.fields.proofs.Slices.{slice-none}
 use Rattle.frames.specs.Staged.{AtRules, Stepped}
 use Rattle.frames.specs.declared.Stage.{Stage}
 use Rattle.frames.specs.declared.Next.the-variants as next
-use Rattle.frames.proofs.RuleBytes.{frames-more}
-use Rattle.frames.proofs.StepFrames.{stepped-left, stepped-ready}
+use Rattle.frames.proofs.StepFrames.{stepped-left, stepped-ready, frame-more, frame-long}
 
 -- The stage behind the end.
 abbrev pub behindEnd : Stage → ℕ → Stage
@@ -33,7 +32,7 @@ module _ {F I : List ℕ} {st : Stage} {M : Table} (a : AtRules F I st M) (at en
     frames-all : take end F ≡ framesOf M
     unfolding framesOf
     frames-all =
-        frames-more F (st .used) at end 4 (headFrames M ++ rowFrames (M .rows)) (a .frames) kind next-to start inside
+        frame-more F (st .used) end (omega arith) inside (headFrames M ++ rowFrames (M .rows)) (slice at end F) 4 (a .frames) kind (ap (λ k. slice k end F) (sym next-to))
         ∙ ap (λ l. headFrames M ++ rowFrames (M .rows) ++ 4 ∷ l) nothing-left
 
     -- The stage behind the end.
@@ -41,7 +40,7 @@ module _ {F I : List ℕ} {st : Stage} {M : Table} (a : AtRules F I st M) (at en
     end-next = stepped-ready F I _ _ at end refl _ _ start whole (record {
       phase = refl;
       head = a .numbers .head;
-      used = sym (length-take-le end F inside) ∙ ap length frames-all;
+      used = frame-long F (st .used) end (omega arith) inside _ frames-all;
       frames = frames-all;
       index = a .index;
     }) refl

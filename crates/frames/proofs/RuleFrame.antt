@@ -4,7 +4,7 @@ use mathlib.Core.List.{List, [], _∷_, _++_}
 use Prim.Native.Nat.{ℕ, _+_, _*_, _<_, _≤_}
 use native.Mathlib.Omega.{arith}
 use lib.ListN.{length, getD, take, set, length-append}
-use lib.Seq.{slice, length-take-le}
+use lib.Seq.{slice}
 use Rattle.machine.specs.Machine.{Row, Table}
 use Rattle.text.specs.Fields.{got, fault, andThen, pure, below}
 use Rattle.text.specs.Frames as text
@@ -12,16 +12,17 @@ use Rattle.text.proofs.Fields.{then-got, below-inv}
 use Rattle.text.proofs.Faults.{then-fault}
 use Rattle.layout.specs.Layout.{rowFrames, headFrames, entryOf, Indexed}
 use Rattle.layout.proofs.Growing.{indexed-more}
+use Rattle.layout.proofs.Modest.{at-most}
 use Rattle.fields.proofs.Slices.{slice-none}
 use Rattle.fields.proofs.Numbers.{IsNumber}
 use Rattle.frames.specs.Staged.{AtRules, Stepped, ruleField, behindRule}
 use Rattle.frames.specs.declared.Stage.{Stage}
 use Rattle.frames.specs.declared.Next.{Next}
 use Rattle.frames.specs.declared.Next.the-variants as next
-use Rattle.frames.proofs.StepFrames.{stepped-left, stepped-ready}
+use Rattle.frames.proofs.StepFrames.{stepped-left, stepped-ready, frame-more, frame-long}
 use Rattle.frames.proofs.RuleFields.{IsRule}
 use Rattle.frames.proofs.RuleKeys.{rises-true, rises-false, before-none}
-use Rattle.frames.proofs.RuleBytes.{row-bytes, frames-more, arity-there, most-at}
+use Rattle.frames.proofs.RuleBytes.{row-bytes, arity-there}
 use Rattle.frames.proofs.RuleSteps.{withRule, rule-full, state-refused, symbol-refused, order-refused, fields-decide}
 use Rattle.frames.proofs.RuleStage.{head-frames, numbers-more, rows-frames}
 
@@ -81,7 +82,7 @@ module _ {F I : List ℕ} {st : Stage} {M : Table} (a : AtRules F I st M) (at en
         arity-is = arity-there F (st .used) M (rowFrames (M .rows)) f (a .used) (a .frames) symbol-below
 
         pub arity-most : getD F (2 * f + 1) 0 ≤ 4
-        arity-most = omega (arith, arity-is, most-at 4 (M .arities) f (a .numbers .small))
+        arity-most = omega (arith, arity-is, at-most 4 (M .arities) f (a .numbers .small))
 
         module _ (later : st .last ≤ q * 64 + f) (n : ℕ) (arity : n ≡ getD F (2 * f + 1) 0) where
           -- The fields decide.
@@ -117,7 +118,7 @@ module _ {F I : List ℕ} {st : Stage} {M : Table} (a : AtRules F I st M) (at en
               -- The row's frame stands behind the frames so far.
               frames-with : take end F ≡ headFrames (text.withRow M row) ++ rowFrames (M .rows ++ row ∷ [])
               frames-with =
-                  frames-more F (st .used) at end 3 (headFrames M ++ rowFrames (M .rows)) (a .frames) kind next-to start inside
+                  frame-more F (st .used) end (omega arith) inside (headFrames M ++ rowFrames (M .rows)) (slice at end F) 3 (a .frames) kind (ap (λ k. slice k end F) (sym next-to))
                   ∙ ap (λ l. headFrames M ++ rowFrames (M .rows) ++ l) (row-bytes (st .head .states) (st .head .symbols) n (slice at end F) q (slice second end F) f (slice from end F) (r .rule) (slice then end F) (i .read) (j .read) (r .read) nothing-left)
                   ∙ sym (rows-frames M row)
 
@@ -141,7 +142,7 @@ module _ {F I : List ℕ} {st : Stage} {M : Table} (a : AtRules F I st M) (at en
               rule-next l o e = stepped-ready F _ _ _ then end taken _ o (r .inside) whole (record {
                 phase = refl;
                 numbers = numbers-more st M row end (a .numbers) has-room symbol-small later;
-                used = sym (length-take-le end F inside) ∙ ap length frames-with;
+                used = frame-long F (st .used) end (omega arith) inside _ frames-with;
                 frames = frames-with;
                 index = index-with l;
               }) e

@@ -8,19 +8,14 @@ use native.Mathlib.Omega.{arith}
 use native.Mathlib.Decide.{decLt}
 use borrow.Author.Tests.{lt-ltb, le-ltb, eq-eqb, ne-eqb, eqb-true}
 use lib.Dec.{eqb, ltb}
+use Rattle.words.proofs.Tests.{both-hold, second-fails}
 use Rattle.machine.specs.Machine.{Rule, Row, Every, find}
 use Rattle.text.specs.Frames.{behindRow, rises}
-use Rattle.text.proofs.Digits.{and-true}
 use Rattle.frames.specs.Staged.{key, lastKey}
 
 -- The rows stand before place n, and their symbols are below 64.
 abbrev pub AllBefore : ℕ → List Row → Type 0
 AllBefore n rows = Every (λ r. (r .symbol < 64) × (key r < n)) rows
-
--- The second of two tests fails.
-and-second : (a b : Bool) → b ≡ false → (a && b) ≡ false
-and-second true b e = e
-and-second false b e = refl
 
 module _ (r : Row) (q f : ℕ) (hr : r .symbol < 64) (hf : f < 64) where
   -- A place behind a row's place rises over the row.
@@ -39,7 +34,7 @@ module _ (r : Row) (q f : ℕ) (hr : r .symbol < 64) (hf : f < 64) where
     where
       go : Dec (r .symbol < f) → behindRow r q f ≡ false
       go (yes k) = rw (le-ltb (r .state) q (omega arith), ne-eqb (r .state) q (λ e. omega arith))
-      go (no k) = rw (le-ltb (r .state) q (omega arith)) (and-second (eqb (r .state) q) (ltb (r .symbol) f) (le-ltb (r .symbol) f (omega arith)))
+      go (no k) = rw (le-ltb (r .state) q (omega arith)) (second-fails (eqb (r .state) q) (ltb (r .symbol) f) (le-ltb (r .symbol) f (omega arith)))
 
 -- A place that is not before n rises over rows that are.
 pub rises-true : (rows : List Row) (q f n : ℕ) → AllBefore n rows → f < 64 → n ≤ q * 64 + f → rises rows q f ≡ true
@@ -61,7 +56,7 @@ before-none (r ∷ rows) q f n h k = go (eqb (r .state) q && eqb (r .symbol) f) 
   where
     go : (b : Bool) → (eqb (r .state) q && eqb (r .symbol) f) ≡ b → find rows q f ≡ none → _≡_ {A = Option Rule} (elim b [ true ↦ some (r .rule) | false ↦ find rows q f ]) none
     go true t more =
-        let d = and-true (eqb (r .state) q) (eqb (r .symbol) f) t in
+        let d = both-hold (eqb (r .state) q) (eqb (r .symbol) f) t in
         absurd (omega (arith, eqb-true (r .state) q (d .0), eqb-true (r .symbol) f (d .1), h .0 .1))
     go false t more = more
 

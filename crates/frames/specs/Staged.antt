@@ -1,7 +1,7 @@
 -- How far the reader is, in numbers, and the stage of the definition that it stands for. Definitions only.
 use mathlib.Core.Path.{_≡_}
 use mathlib.Core.List.{List, [], _∷_, _++_}
-use Prim.Native.Nat.{ℕ, suc, _+_, _*_, _<_, _≤_}
+use Prim.Native.Nat.{ℕ, _+_, _*_, _<_, _≤_}
 use lib.ListN.{length, take}
 use lib.Seq.{slice}
 use Rattle.machine.specs.Machine.{Rule, Row, Table, Every}

@@ -1,16 +1,16 @@
--- How the frames and the index grow: rows that rise have no rule for the next row yet, and one store enters it.
+-- How the frames and the index grow: one store enters the next row.
 use mathlib.Core.Path.{_≡_, refl, sym, ap, ap₂, _∙_}
 use mathlib.Core.Bool.{Bool, true, false, _&&_}
 use mathlib.Core.List.{List, [], _∷_, _++_, append-assoc, append-nil}
-use mathlib.Core.Logic.{inl, inr}
 use mathlib.Core.Option.{Option, none, some}
 use Prim.Native.Nat.{ℕ, _+_, _*_, _<_}
 use native.Mathlib.Omega.{arith}
 use lib.Dec.{eqb}
 use lib.ListN.{length, getD, set, length-append}
 use lib.Seq.{getD-set-same, getD-set-other}
-use borrow.Author.Tests.{eqb-true, ne-eqb, eq-eqb}
-use Rattle.machine.specs.Machine.{Rule, Row, Before, Rising, find}
+use borrow.Author.Tests.{eqb-true, eq-eqb}
+use Rattle.words.proofs.Tests.{both-hold}
+use Rattle.machine.specs.Machine.{Rule, Row, find}
 use Rattle.text.specs.Writing.{rowFrame}
 use Rattle.layout.specs.Layout.{symbolFrames, rowFrames, entryOf, entryIn, Indexed, indexSize}
 use Rattle.layout.proofs.Entries.{entry-here, entry-later}
@@ -50,16 +50,6 @@ entry-last p (x ∷ rows) r q f n e = go (picks x q f) refl n (entry-last (p + l
     go true t d more = let z : _≡_ {A = ℕ} 0 1 = cc in absurd (omega arith)
     go false t d more = entry-later p x (rows ++ r ∷ []) q f t ∙ more d e ∙ ap (λ (k : ℕ). entryOf k (r .rule)) place
 
--- Two tests hold together.
-and-both : (a b : Bool) → (a && b) ≡ true → (a ≡ true) × (b ≡ true)
-and-both true b e = (refl, e)
-and-both false b e = let z : _≡_ {A = ℕ} 0 1 = cc in absurd (omega arith)
-
--- One of two tests fails.
-and-second : (a b : Bool) → b ≡ false → (a && b) ≡ false
-and-second true b e = e
-and-second false b e = refl
-
 -- Entries of two states and symbols below 64 stand at one place only if these are the same.
 one-place : (r : Row) (q f : ℕ) → r .symbol < 64 → f < 64 → picks r q f ≡ false → q * 64 + f ≡ r .state * 64 + r .symbol → ⊥
 one-place r q f hr hf e d =
@@ -82,43 +72,13 @@ indexed-more I p rows r l hs hr n x q f hq hf = go (picks r q f) refl
 
     go : (b : Bool) → picks r q f ≡ b → getD (set I at v) (q * 64 + f) 0 ≡ entryIn p (rows ++ r ∷ []) q f
     go true t =
-        let d = and-both (eqb (r .state) q) (eqb (r .symbol) f) t in
+        let d = both-hold (eqb (r .state) q) (eqb (r .symbol) f) t in
         let eq : r .state ≡ q = eqb-true (r .state) q (d .0) in
         let ef : r .symbol ≡ f = eqb-true (r .symbol) f (d .1) in
         let here : q * 64 + f ≡ at = omega arith in
         ap (λ (k : ℕ). getD (set I at v) k 0) here ∙ getD-set-same I at v 0 (omega arith)
         ∙ sym (entry-last p rows r q f (ap₂ (λ (a : ℕ) (b : ℕ). find rows a b) (sym eq) (sym ef) ∙ n) t)
     go false t = getD-set-other I at (q * 64 + f) v 0 (one-place r q f hr hf t) ∙ x q f hq hf ∙ sym (entry-skip p rows r q f t)
-
--- Rows before rows.
-before-trans : (x y z : Row) → Before x y → Before y z → Before x z
-before-trans x y z (inl a) (inl b) = inl (omega arith)
-before-trans x y z (inl a) (inr b) = inl (omega (arith, b .0))
-before-trans x y z (inr a) (inl b) = inl (omega (arith, a .0))
-before-trans x y z (inr a) (inr b) = inr (a .0 ∙ b .0, omega (arith, a .1, b .1))
-
--- The first of rising rows stands before the last.
-before-last : (x : Row) (rows : List Row) (r : Row) → Rising (x ∷ rows ++ r ∷ []) → Before x r
-before-last x [] r h = h .0
-before-last x (y ∷ rows) r h = before-trans x y r (h .0) (before-last y rows r (h .1))
-
--- A row before r is not of r's state and symbol.
-before-other : (x r : Row) → Before x r → picks x (r .state) (r .symbol) ≡ false
-before-other x r (inl h) = ap (λ (b : Bool). b && eqb (x .symbol) (r .symbol)) (ne-eqb (x .state) (r .state) (λ e. omega arith))
-before-other x r (inr h) = and-second (eqb (x .state) (r .state)) (eqb (x .symbol) (r .symbol)) (ne-eqb (x .symbol) (r .symbol) (λ e. omega (arith, h .1)))
-
--- Rising rows rise without the first.
-rising-rest : (x : Row) (rows : List Row) (r : Row) → Rising (x ∷ rows ++ r ∷ []) → Rising (rows ++ r ∷ [])
-rising-rest x [] r h = tt
-rising-rest x (y ∷ rows) r h = h .1
-
--- Rising rows have no rule for their last row's state and symbol before it.
-pub rising-none : (rows : List Row) (r : Row) → Rising (rows ++ r ∷ []) → find rows (r .state) (r .symbol) ≡ none
-unfolding find
-rising-none [] r h = refl
-rising-none (x ∷ rows) r h =
-    ap (λ (b : Bool). elim b as (λ c. Option Rule) [ true ↦ some (x .rule) | false ↦ find rows (r .state) (r .symbol) ]) (before-other x r (before-last x rows r h))
-    ∙ rising-none rows r (rising-rest x rows r h)
 
 -- One symbol more, one frame more.
 pub symbols-more : (xs : List ℕ) (a : ℕ) → symbolFrames (xs ++ a ∷ []) ≡ symbolFrames xs ++ 1 ∷ a ∷ []

@@ -14,7 +14,7 @@ use Rattle.layout.proofs.Fit.{length-symbols}
 use Rattle.layout.proofs.Stretches.{byte-here, byte-behind, further, word-here}
 
 -- A symbol's arity is the second byte of its frame.
-symbol-arity : (xs ys : List ℕ) (f : ℕ) → f < length xs → getD (symbolFrames xs ++ ys) (2 * f + 1) 0 ≡ getD xs f 0
+pub symbol-arity : (xs ys : List ℕ) (f : ℕ) → f < length xs → getD (symbolFrames xs ++ ys) (2 * f + 1) 0 ≡ getD xs f 0
 unfolding symbolFrames
 symbol-arity [] ys f h = absurd (not-suc-le-zero h)
 symbol-arity (x ∷ xs) ys zero h = refl

@@ -8,9 +8,17 @@ use Rattle.machine.specs.Machine.{Rule, Table, find}
 use Rattle.layout.specs.Layout.{Opened}
 use Rattle.layout.specs.Leaves.{entryAt, RuleAt, LookedUp, Tame}
 use Rattle.layout.specs.declared.Place.{Place}
+use Rattle.layout.specs.declared.Lookup.{Lookup}
 use Rattle.layout.specs.declared.Lookup.the-variants.{Found, Missing}
 use Rattle.layout.proofs.Unpack.{Unpacked}
 use Rattle.layout.proofs.Entries.{entry-some, entry-none, entered-unpacks, entered-positive}
+
+-- What is known of an answer is known of one that is the same.
+pub looked-as : (F : List ℕ) (o : Option Rule) {x y : Lookup} → x ≡ y → LookedUp F o x → LookedUp F o y
+looked-as F o e l = subst (λ (z : Lookup). LookedUp F o z) e l
+
+pub tame-as : {x y : Lookup} → x ≡ y → Tame x → Tame y
+tame-as e t = subst Tame e t
 
 -- The place that a number tells.
 abbrev pub Told : ℕ → Place → Type 0

@@ -9,6 +9,7 @@ use Prim.Native.Nat.{ℕ}
 use native.Mathlib.Omega.{arith}
 use lib.Dec.{eqb}
 use Rattle.words.specs.Word.{Word, _⊕_, Holds, NoPrefix, NoSuffix}
+use Rattle.words.proofs.Cut.{none-right}
 use Rattle.words.proofs.Ends.{empty-no-prefix, empty-no-suffix, head-prefix}
 use Rattle.machine.specs.Machine.{Tree, Forest, node, ∅, _▸_, Rule, Table, find, apply, word, words}
 use Rattle.machine.specs.Earliest.{L, Tails, HasWord, Reached, initial, LeftRule}
@@ -64,11 +65,6 @@ turns-same (some u) h = ap (λ x. some abc ⊕ some x) (append-nil u) ∙ h
 turns-more : (a : Option Word) → Turns a → Turns (some abc ⊕ (a ⊕ some [] ⊕ some []))
 turns-more none h = refl
 turns-more (some u) h = ap (λ x. some abc ⊕ (some abc ⊕ some x)) (append-nil u) ∙ ap (λ x. some abc ⊕ x) h ∙ ap (λ x. some abc ⊕ (some x ⊕ some abc)) (sym (append-nil u))
-
--- What is joined with a missing word is missing.
-none-right : (a : Option Word) → a ⊕ none ≡ none
-none-right none = refl
-none-right (some u) = refl
 
 -- The rule of such a table, where b tells that the symbol is f and c that it is e.
 abbrev pick : Bool → Bool → Rule → Option Rule

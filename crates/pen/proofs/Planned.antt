@@ -2,14 +2,15 @@
 use mathlib.Core.Path.{_≡_, sym, ap, _∙_}
 use mathlib.Core.List.{List, [], _∷_, _++_, append-assoc}
 use mathlib.Core.Option.{some, Option·some-injective}
-use Prim.Native.Nat.{ℕ, zero, suc, _+_, _-_, _/_, _%_, _<_, _≤_}
-use native.Mathlib.Numerals.{add-one, sub-one}
+use Prim.Native.Nat.{ℕ, suc, _+_, _-_, _/_, _%_, _<_, _≤_}
+use native.Mathlib.Numerals.{add-one}
 use native.Mathlib.Omega.{arith}
 use lib.ListN.{length, getD, drop, length-append, length-drop}
 use Rattle.words.specs.Word.{Word}
 use Rattle.machine.specs.Machine.{Tree, Forest, node, _▸_, Child, Rule, Table, word, words}
 use Rattle.machine.proofs.Word.{word-parts, words-parts, words-nil}
 use Rattle.trees.specs.Preorder.{preorder, preorders, Levels, Levelss}
+use Rattle.trees.proofs.Levels.{no-level, levels-below}
 use Rattle.text.specs.Writing.{textOf, childrenText}
 use Rattle.layout.specs.Layout.{ruleText}
 use Rattle.layout.specs.Leaves.{wordAt, behindAt}
@@ -55,8 +56,7 @@ pub record Ruled (F P : List ℕ) (M : Table) (levels place : ℕ) (w : Word) (n
 
 -- With no level allowed there is no tree.
 pub no-levels : (F P : List ℕ) (at levels n : ℕ) (M : Table) (q : ℕ) (t : Tree) (w : Word) → levels ≡ 0 → Due F P at levels n M q t w → ⊥
-unfolding Levels
-no-levels F P at levels n M q (node f ts) w e d = rw e at (d .levels)
+no-levels F P at levels n M q t w e d = no-level t levels e (d .levels)
 
 -- Past the end of the plan there is no tree.
 pub no-place : (F P : List ℕ) (at levels n : ℕ) (M : Table) (q : ℕ) (t : Tree) (w : Word) → 32767 < at → Due F P at levels n M q t w → ⊥
@@ -85,16 +85,12 @@ ruled F P at levels n M q (node f ts) w d =
         frames = word-behind F p (r .first) (childrenText (r .rest) ++ h .there .behind) e;
         kids = sym (h .kids);
         planned = rw add-one (d .planned .3);
-        low = below levels (d .levels);
+        low = levels-below f ts levels (d .levels);
         writes = ap (λ (z : Rule). words M ts (z .rest)) s ∙ a .3;
         passed = omega arith;
       };
       whole = a .4 ∙ ap (λ (z : Rule). z .first ++ a .1) (sym s);
     }
-  where
-    below : (k : ℕ) → Levels (node f ts) k → Levelss ts (k - 1)
-    below zero x = absurd x
-    below (suc k) x = rw sub-one x
 
 -- The child that is next: its tree t, the word x that its state writes on t, the word after it, and what is left behind both.
 pub record Next (F P : List ℕ) (M : Table) (levels place : ℕ) (v : Word) (next left pos : ℕ) : Type 0 where

@@ -1,13 +1,15 @@
 -- What is read as a table is the table's text, and the table is within the limits.
 use mathlib.Core.Path.{_≡_, refl}
-use mathlib.Core.Bool.{Bool, true, false, _||_}
+use mathlib.Core.Bool.{_||_}
 use mathlib.Core.List.{List, [], _∷_, _++_, append-assoc, append-nil}
 use Prim.Native.Nat.{ℕ, suc, _+_, _≤_}
 use native.Mathlib.Omega.{arith}
 use borrow.Author.Tests.{ltb-false}
 use lib.Dec.{eqb, ltb}
 use lib.ListN.{length}
-use Rattle.words.specs.Reply.{Reply, given, refuse-if}
+use Rattle.words.specs.Reply.{given}
+use Rattle.words.proofs.Tests.{both-fail}
+use Rattle.words.proofs.Replies.{refuse-given}
 use Rattle.machine.specs.Machine.{Table}
 use Rattle.text.specs.Limits.{textMost}
 use Rattle.text.specs.Lines.{Lines, behind, line, linesOf, hexOf, lineOf}
@@ -46,28 +48,18 @@ lines-back (line l ls) t s p M e w h =
     let b = lines-back ls (f .rest) s′ (p + suc (length l)) M (f .more) (takes-within s frame s′ w a) k in
     (join-line (written s) (written s′) t l (f .rest) frame (writeTable M) (f .is) (bytes-hex l frame i) (takes-written s frame s′ a) (b .0), b .1)
 
--- Neither test holds.
-or-false : (a b : Bool) → (a || b) ≡ false → (a ≡ false) × (b ≡ false)
-or-false true b e = absurd (let z : _≡_ {A = ℕ} 0 1 = cc in omega arith)
-or-false false b e = (refl, e)
-
--- An answer that is not refused is the other one.
-refuse-inv : (b : Bool) (n p : ℕ) (r : Reply Table) (M : Table) → refuse-if b n p r ≡ given M → (b ≡ false) × (r ≡ given M)
-refuse-inv true n p r M e = refused-given n p M e
-refuse-inv false n p r M e = (refl, e)
-
 -- A text that is read as a table is that table's text.
 pub write-read : (t : List ℕ) (M : Table) → readTable t ≡ given M → t ≡ writeTable M
 unfolding readTable written Within symbolLines
 write-read t M e =
-    let x = refuse-inv (eqb (length t) 0 || ltb textMost (length t)) 1 0 _ M e in
+    let x = refuse-given (eqb (length t) 0 || ltb textMost (length t)) 1 0 _ M e in
     lines-back (linesOf t) t (symbols []) 0 M refl (omega arith, tt) (x .1) .0
 
 -- A table that is read is within the limits.
 pub read-limited : (t : List ℕ) (M : Table) → readTable t ≡ given M → Limited M
 unfolding readTable Within
 read-limited t M e =
-    let x = refuse-inv (eqb (length t) 0 || ltb textMost (length t)) 1 0 _ M e in
-    let y = or-false (eqb (length t) 0) (ltb textMost (length t)) (x .0) in
+    let x = refuse-given (eqb (length t) 0 || ltb textMost (length t)) 1 0 _ M e in
+    let y = both-fail (eqb (length t) 0) (ltb textMost (length t)) (x .0) in
     let l : length t ≤ textMost = ltb-false textMost (length t) (y .1) in
     bounded-limited M (lines-back (linesOf t) t (symbols []) 0 M refl (omega arith, tt) (x .1) .1) (rw (write-read t M e) at l)

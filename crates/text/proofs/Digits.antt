@@ -8,14 +8,9 @@ use native.Mathlib.Omega.{arith}
 use borrow.Author.Tests.{ltb-true, ltb-false, leb-true, lt-ltb, le-ltb, le-leb, lt-leb}
 use lib.Dec.{leb, ltb}
 use lib.ListN.{length}
+use Rattle.words.proofs.Tests.{both-hold}
 use Rattle.text.specs.Lines.{digit, joined, bytesOf, digitOf, hexOf}
 use Rattle.text.specs.Writing.{AtMost}
-
--- Both tests hold.
-pub and-true : (a b : Bool) → (a && b) ≡ true → (a ≡ true) × (b ≡ true)
-and-true true true e = (refl, refl)
-and-true true false e = absurd (let z : _≡_ {A = ℕ} 0 1 = cc in omega arith)
-and-true false b e = absurd (let z : _≡_ {A = ℕ} 0 1 = cc in omega arith)
 
 -- ---- digits
 
@@ -58,13 +53,13 @@ digit-inv c v h = go (leb 0x30 c && leb c 0x39) (leb 0x61 c && leb c 0x66) refl 
     go : (a b : Bool) → (leb 0x30 c && leb c 0x39) ≡ a → (leb 0x61 c && leb c 0x66) ≡ b → elim a as (λ x. Option ℕ) [ true ↦ some (c - 0x30) | false ↦ elim b as (λ x. Option ℕ) [ true ↦ some (c - 0x61 + 10) | false ↦ none ] ] ≡ some v → (v < 16) × (c ≡ digitOf v)
     go true b e f i =
         let s : c - 0x30 ≡ v = Option·some-injective _ _ i in
-        let t = and-true (leb 0x30 c) (leb c 0x39) e in
+        let t = both-hold (leb 0x30 c) (leb c 0x39) e in
         let l : 0x30 ≤ c = leb-true 0x30 c (t .0) in
         let m : c ≤ 0x39 = leb-true c 0x39 (t .1) in
         (omega arith, rw (digitOf-low v (omega arith)) (omega arith))
     go false true e f i =
         let s : c - 0x61 + 10 ≡ v = Option·some-injective _ _ i in
-        let t = and-true (leb 0x61 c) (leb c 0x66) f in
+        let t = both-hold (leb 0x61 c) (leb c 0x66) f in
         let l : 0x61 ≤ c = leb-true 0x61 c (t .0) in
         let m : c ≤ 0x66 = leb-true c 0x66 (t .1) in
         (omega arith, rw (digitOf-high v (omega arith)) (omega arith))

@@ -145,6 +145,17 @@ children-read n (c ∷ cs) rest h k =
     ∙ then-got _ _ (c .after) (childrenText cs ++ rest) w
     ∙ then-got _ _ cs rest (children-read n cs rest (h .1) (k .1))
 
+-- Children that are read are what stands there.
+pub children-bytes : (n k : ℕ) (bs : List ℕ) (cs : List Child) (rest : List ℕ) → children n k bs ≡ got cs rest → bs ≡ childrenText cs ++ rest
+unfolding children childrenText
+children-bytes n zero bs cs rest e = let x : [] ≡ cs = cc in let y : bs ≡ rest = cc in rw (← x) y
+children-bytes n (suc k) bs cs rest e =
+    then-inv (below n bs) _ cs rest e λ q s i e₁. then-inv (text s) _ cs rest e₁ λ u r j e₂. then-inv (children n k r) _ cs rest e₂ λ ds t l e₃.
+    let a : record { state = q; after = u } ∷ ds ≡ cs = cc in
+    let b : t ≡ rest = cc in
+    rw (← a, ← b)
+    (below-inv n bs q s i .1 ∙ ap (λ v. q ∷ v) (text-inv s u r j .1) ∙ ap (λ v. q ∷ length u ∷ v) (ap (λ v. u ++ v) (children-bytes n k r ds t l) ∙ sym (append-assoc u (childrenText ds) t)))
+
 -- The bytes bs are those of k children cs with states below n, and then the bytes rest.
 pub record ChildrenRead (n k : ℕ) (bs : List ℕ) (cs : List Child) (rest : List ℕ) : Type 0 where
   pub count : length cs ≡ k
@@ -173,5 +184,5 @@ children-inv n (suc k) bs cs rest h e =
       states = (x .0, z .states);
       short = (y .0, z .short);
       left = z .left;
-      is = x .1 ∙ ap (λ v. q ∷ v) (y .2) ∙ ap (λ v. q ∷ length u ∷ v) (ap (λ v. u ++ v) (z .is) ∙ sym (append-assoc u (childrenText ds) t));
+      is = children-bytes n (suc k) bs (record { state = q; after = u } ∷ ds) t (cc (e, a, b));
     })

@@ -5,13 +5,9 @@ use mathlib.Core.Logic.{_⊎_, inl, inr}
 use mathlib.Core.List.{List, [], _∷_, _++_}
 use borrow.Author.Tests.{ltb-true, eqb-true, lt-ltb, eq-eqb}
 use lib.Dec.{ltb, eqb}
+use Rattle.words.proofs.Tests.{both-hold, one-holds}
 use Rattle.machine.specs.Machine.{Row, Before, Rising}
 use Rattle.text.specs.Frames.{behindRow, rises}
-use Rattle.text.proofs.Digits.{and-true}
-
-or-true : (a b : Bool) → (a || b) ≡ true → (a ≡ true) ⊎ (b ≡ true)
-or-true true b e = inl refl
-or-true false b e = inr e
 
 or-left : (a b : Bool) → a ≡ true → (a || b) ≡ true
 or-left a b e = rw e
@@ -27,12 +23,12 @@ before-behind r s (inr h) = or-right (ltb (r .state) (s .state)) _ (rw (eq-eqb (
 
 -- And only then.
 behind-before : (r s : Row) → behindRow r (s .state) (s .symbol) ≡ true → Before r s
-behind-before r s e = go (or-true (ltb (r .state) (s .state)) (eqb (r .state) (s .state) && ltb (r .symbol) (s .symbol)) e)
+behind-before r s e = go (one-holds (ltb (r .state) (s .state)) (eqb (r .state) (s .state) && ltb (r .symbol) (s .symbol)) e)
   where
     go : (ltb (r .state) (s .state) ≡ true) ⊎ ((eqb (r .state) (s .state) && ltb (r .symbol) (s .symbol)) ≡ true) → Before r s
     go (inl h) = inl (ltb-true (r .state) (s .state) h)
     go (inr h) =
-        let x = and-true (eqb (r .state) (s .state)) (ltb (r .symbol) (s .symbol)) h in
+        let x = both-hold (eqb (r .state) (s .state)) (ltb (r .symbol) (s .symbol)) h in
         inr (eqb-true (r .state) (s .state) (x .0), ltb-true (r .symbol) (s .symbol) (x .1))
 
 -- A row that rises over rising rows makes rising rows.

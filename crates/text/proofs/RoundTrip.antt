@@ -4,6 +4,7 @@ use mathlib.Core.List.{List}
 use mathlib.Core.Logic.{_↔_}
 use Prim.Native.Nat.{ℕ}
 use Rattle.words.specs.Reply.{given}
+use Rattle.words.proofs.Replies.{given-injective}
 use Rattle.machine.specs.Machine.{Table}
 use Rattle.text.specs.Reading.{readTable}
 use Rattle.text.specs.Writing.{writeTable, Limited}
@@ -13,10 +14,6 @@ use Rattle.text.proofs.Forth.{read-write}
 -- A text is read as a table exactly when it is the table's text and the table is within the limits.
 pub reads : (t : List ℕ) (M : Table) → (readTable t ≡ given M) ↔ ((t ≡ writeTable M) × Limited M)
 reads t M = (λ e. (write-read t M e, read-limited t M e), λ h. ap readTable (h .0) ∙ read-write M (h .1))
-
--- Two yes answers that are one hold one table.
-pub given-injective : (M N : Table) → given M ≡ given N → M ≡ N
-given-injective M N e = cc
 
 -- Texts that are read as one table are one text.
 pub read-injective : (t t′ : List ℕ) (M : Table) → readTable t ≡ given M → readTable t′ ≡ given M → t ≡ t′

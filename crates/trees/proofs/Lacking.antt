@@ -7,6 +7,7 @@ use Prim.Native.Nat.{ℕ, suc, _+_}
 use native.Mathlib.Omega.{arith}
 use lib.ListN.{length}
 use Rattle.words.specs.Word.{Word, _⊕_}
+use Rattle.words.proofs.Cut.{none-right}
 use Rattle.machine.specs.Machine.{Tree, Forest, node, ∅, _▸_, Child, Rule, Table, find, apply, word, words, WellMade}
 use Rattle.machine.specs.Ranks.{count, Ranked, Rankeds}
 use Rattle.trees.specs.Preorder.{preorder}
@@ -18,15 +19,10 @@ abbrev Silent : Option ℕ → Option Word → Type 0
 Silent none a = Unit {0}
 Silent (some p) a = a ≡ none
 
--- Nothing joined is nothing.
-join-none : (a : Option Word) → a ⊕ none ≡ none
-join-none none = refl
-join-none (some u) = refl
-
 -- So it is of a child, its word and the rest.
 silent-join : (o i : Option ℕ) (a b : Option Word) (v : Word) → Silent o a → Silent i b → Silent (orElse o i) (a ⊕ some v ⊕ b)
 silent-join none none a b v h k = tt
-silent-join none (some p) a b v h k = rw k (join-none a)
+silent-join none (some p) a b v h k = rw k (none-right a)
 silent-join (some p) i a b v h k = rw h
 
 -- So it is behind the first word of a rule.

@@ -1,6 +1,6 @@
 -- Laws of tree bytes: a preorder is read back in one way; what is read, and what is refused, and why; where a rule is lacking.
 pub mod Preorder
-pub mod Replies
+pub mod Levels
 pub mod Shape
 pub mod Whole
 pub mod Stops

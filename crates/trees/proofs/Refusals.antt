@@ -14,7 +14,7 @@ use Rattle.machine.specs.Machine.{Tree}
 use Rattle.trees.specs.Preorder.{preorder}
 use Rattle.trees.specs.Shape.{Read, treeAt, alone, readTree, depthMost}
 use Rattle.trees.specs.Causes.{Begun, Sized, Cause, size, unknown, early, deep, behind}
-use Rattle.trees.proofs.Replies.{given-refused, refuse-refused, then-refused}
+use Rattle.words.proofs.Replies.{given-refused, refuse-refused, then-refused}
 use Rattle.trees.proofs.Shape.{IsTree, tree-sound, tree-complete}
 use Rattle.trees.proofs.Stops.{Why, ended, strange, under, Stops, tree-stops}
 use Rattle.trees.proofs.Stopped.{stops-tree}

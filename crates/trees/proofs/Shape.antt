@@ -13,7 +13,7 @@ use Rattle.machine.specs.Machine.{Tree, Forest, node, ∅, _▸_}
 use Rattle.machine.specs.Ranks.{count, Ranked, Rankeds}
 use Rattle.trees.specs.Preorder.{preorder, preorders, Levels, Levelss}
 use Rattle.trees.specs.Shape.{Read, forestAt, nodeAt, treeAt}
-use Rattle.trees.proofs.Replies.{given-refused, given-injective, refuse-given, then-given}
+use Rattle.words.proofs.Replies.{given-refused, given-injective, refuse-given, then-given}
 
 -- What was read from place p on of bytes bs is a ranked tree of at most n levels, and the bytes are its preorder and what is left.
 pub record IsTree (ar : List ℕ) (n p : ℕ) (bs : List ℕ) (r : Read Tree) : Type 0 where

@@ -15,7 +15,7 @@ use Rattle.machine.specs.Ranks.{count, Rankeds}
 use Rattle.trees.specs.Preorder.{preorder, preorders, Levelss}
 use Rattle.trees.specs.Shape.{Read, forestAt, nodeAt, treeAt}
 use Rattle.trees.specs.Causes.{Begun, here, below}
-use Rattle.trees.proofs.Replies.{given-refused, refused-injective, refuse-refused, then-refused}
+use Rattle.words.proofs.Replies.{given-refused, refused-injective, refuse-refused, then-refused}
 use Rattle.trees.proofs.Shape.{IsTree, tree-sound}
 
 -- Why no tree begins with the bytes that are left, where m levels are left: x is the number of that.

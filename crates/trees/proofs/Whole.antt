@@ -15,23 +15,14 @@ use Rattle.trees.specs.Preorder.{preorder, Levels}
 use Rattle.trees.specs.Shape.{Read, treeAt, alone, readTree, treeMost, depthMost}
 use Rattle.trees.proofs.Preorder.{preorder-some}
 use Rattle.trees.specs.Causes.{Sized}
-use Rattle.trees.proofs.Replies.{given-injective, refuse-given, then-given}
+use Rattle.words.proofs.Tests.{one-holds, both-fail}
+use Rattle.words.proofs.Replies.{given-injective, refuse-given, then-given}
 use Rattle.trees.proofs.Shape.{tree-sound, tree-complete}
 
 -- A list of length 0 is empty.
 no-length : (bs : List ℕ) → length bs ≡ 0 → bs ≡ []
 no-length [] e = refl
 no-length (b ∷ bs) e = absurd (omega arith)
-
--- Both of two tests fail if neither holds.
-both-fail : (a b : Bool) → (a || b) ≡ false → (a ≡ false) × (b ≡ false)
-both-fail true b e = let z : _≡_ {A = ℕ} 0 1 = cc in absurd (omega arith)
-both-fail false b e = (refl, e)
-
--- One of two tests holds if either does.
-one-holds : (a b : Bool) → (a || b) ≡ true → (a ≡ true) ⊎ (b ≡ true)
-one-holds true b e = inl refl
-one-holds false b e = inr e
 
 -- The test of number 6.
 abbrev pub wrongSize : List ℕ → Bool

@@ -2,6 +2,7 @@
 use mathlib.Core.Path.{_≡_, refl, sym, ap, _∙_, subst}
 use mathlib.Core.List.{List, [], _∷_, map}
 use Prim.Native.Nat.{ℕ, zero, suc, _+_, _-_, _≤_, _<_}
+use native.Mathlib.Numerals.{sub-one}
 use native.Mathlib.Omega.{arith}
 use lib.ListN.{length, getD, set, length-map, length-set, List·getD-map}
 use lib.Seq.{set-out}
@@ -14,7 +15,6 @@ use Rattle.verdict.specs.Codes.{decode, K, summaries}
 use Rattle.verdict.specs.Reading.{rowAt, rowEnd, rowsAt}
 use Rattle.verdict.specs.Steps.{Risen}
 use Rattle.verdict.proofs.Codes.{nothing-known}
-use Rattle.verdict.proofs.Walks.{one-less}
 
 -- A list in which one element is replaced, seen through a function.
 pub map-set : {A B : Type 0} (f : A → B) (l : List A) (i : ℕ) (a : A) → map f (set l i a) ≡ set (map f l) i (f a)
@@ -71,7 +71,7 @@ module _ (F : List ℕ) (p : ℕ) where
   pub rows-more : (n : ℕ) → 0 < n → rowsAt F p n ≡ rowAt F p ∷ rowsAt F (rowEnd F p) (n - 1)
   unfolding rowsAt
   rows-more zero h = absurd (omega arith)
-  rows-more (suc n) h = ap (λ k. rowAt F p ∷ rowsAt F (rowEnd F p) k) (one-less n)
+  rows-more (suc n) h = ap (λ k. rowAt F p ∷ rowsAt F (rowEnd F p) k) (sym (sub-one (suc n)))
 
   -- No rows.
   pub rows-none : (n : ℕ) → n ≡ 0 → rowsAt F p n ≡ []

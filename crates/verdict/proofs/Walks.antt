@@ -3,6 +3,7 @@ use mathlib.Core.Path.{_≡_, sym, ap, _∙_}
 use mathlib.Core.Bool.{true, false}
 use mathlib.Core.List.{List, [], _∷_}
 use Prim.Native.Nat.{ℕ, zero, suc, _+_, _-_, _≤_, _<_}
+use native.Mathlib.Numerals.{sub-one}
 use native.Mathlib.Omega.{arith}
 use borrow.Author.Tests.{lt-ltb, le-ltb}
 use lib.ListN.{getD}
@@ -21,10 +22,6 @@ near-same n h = sym (ap (λ t. elim t as (λ x. ℕ) [ true ↦ n | false ↦ 32
 pub near-most : (n : ℕ) → 32768 ≤ n → 32768 ≡ near n
 near-most n h = sym (ap (λ t. elim t as (λ x. ℕ) [ true ↦ n | false ↦ 32768 ]) (le-ltb n 32768 h))
 
--- One less than the next number.
-pub one-less : (n : ℕ) → n ≡ suc n - 1
-one-less n = omega arith
-
 module _ (F : List ℕ) (p : ℕ) where
   -- The child at p.
   abbrev pub childAt : Child
@@ -34,7 +31,7 @@ module _ (F : List ℕ) (p : ℕ) where
   pub children-more : (n : ℕ) → 0 < n → childrenAt F p n ≡ childAt ∷ childrenAt F (pastAt F (p + 1)) (n - 1)
   unfolding childrenAt
   children-more zero h = absurd (omega arith)
-  children-more (suc n) h = ap (λ k. childAt ∷ childrenAt F (pastAt F (p + 1)) k) (one-less n)
+  children-more (suc n) h = ap (λ k. childAt ∷ childrenAt F (pastAt F (p + 1)) k) (sym (sub-one (suc n)))
 
   -- No children.
   pub children-none : (n : ℕ) → n ≡ 0 → childrenAt F p n ≡ []
@@ -45,7 +42,7 @@ module _ (F : List ℕ) (p : ℕ) where
   pub end-more : (n : ℕ) → 0 < n → childrenEnd F p n ≡ childrenEnd F (pastAt F (p + 1)) (n - 1)
   unfolding childrenEnd
   end-more zero h = absurd (omega arith)
-  end-more (suc n) h = ap (childrenEnd F (pastAt F (p + 1))) (one-less n)
+  end-more (suc n) h = ap (childrenEnd F (pastAt F (p + 1))) (sym (sub-one (suc n)))
 
   -- Where no children end.
   pub end-none : (n : ℕ) → n ≡ 0 → childrenEnd F p n ≡ p

@@ -10,6 +10,7 @@ use lib.ListN.{length, getD, take, drop, length-append, length-drop, length-take
 use Rattle.words.specs.Word.{Word}
 use Rattle.machine.specs.Machine.{Tree, Table, find, word}
 use Rattle.trees.specs.Preorder.{preorder}
+use Rattle.trees.proofs.Levels.{no-level}
 use Rattle.layout.specs.Layout.{Opened}
 use Rattle.layout.specs.Leaves.{wordAt, behindAt, LookedUp}
 use Rattle.layout.specs.declared.Place.{Place}
@@ -20,7 +21,8 @@ use Rattle.walk.specs.Walked.{Stands, Written, Inside}
 use Rattle.walk.specs.declared.Step.{Step}
 use Rattle.walk.specs.declared.Step.the-variants.{Wrote, Lost}
 use Rattle.walk.proofs.Room.{part-grows, room-rest}
-use Rattle.walk.proofs.EvalRule.{Ruled, no-levels, no-bytes, no-rule, ruled}
+use Rattle.walk.proofs.Roots.{no-byte}
+use Rattle.walk.proofs.EvalRule.{Ruled, no-rule, ruled}
 use Rattle.walk.proofs.EvalHeld.{Held, held-first, held-last, held-due, due-fits, held-more}
 
 -- The answer r and the room R′ at the end are right for every tree with a word that the room R has room for.
@@ -46,11 +48,11 @@ pub record Asked (I S : List ℕ) (at q : ℕ) (r : Lookup) : Type 0 where
 module _ (F I S : List ℕ) (levels at q n : ℕ) where
   -- No level is allowed.
   pub levels-nothing : levels ≡ 0 → Nothing F I S levels at q n
-  levels-nothing z M t w h e l = no-levels F I S at levels M t z h
+  levels-nothing z M t w h e l = no-level t levels z (h .levels)
 
   -- The bytes have ended.
   pub bytes-nothing : length S ≤ at → Nothing F I S levels at q n
-  bytes-nothing z M t w h e l = no-bytes F I S at levels M t z h
+  bytes-nothing z M t w h e l = no-byte t h z
 
 module _ (F : List ℕ) (levels : ℕ) {I S : List ℕ} {at q : ℕ} {r : Lookup} (k : Asked I S at q r) where
   -- What was looked up is the rule of the tree's symbol.

@@ -1,21 +1,21 @@
 -- Writing the word of a tree begins with the tree's own rule. Assumes nothing.
-use mathlib.Core.Path.{_≡_, ap}
+use mathlib.Core.Path.{_≡_}
 use mathlib.Core.List.{List, _++_}
 use mathlib.Core.Option.{some}
-use Prim.Native.Nat.{ℕ, zero, suc, _+_, _-_, _≤_}
-use native.Mathlib.Numerals.{sub-one}
+use Prim.Native.Nat.{ℕ, _+_, _-_}
 use native.Mathlib.Omega.{arith}
-use lib.ListN.{length, getD, drop, length-drop}
+use lib.ListN.{length, getD, drop}
 use Rattle.words.specs.Word.{Word}
 use Rattle.machine.specs.Machine.{Tree, Forest, node, Rule, Table, find, word, words}
 use Rattle.machine.specs.Ranks.{Rankeds}
 use Rattle.machine.proofs.Word.{word-parts}
 use Rattle.trees.specs.Preorder.{preorder, preorders, Levels, Levelss}
+use Rattle.trees.proofs.Levels.{levels-below}
 use Rattle.layout.specs.Leaves.{PlaceOf, LookedUp}
 use Rattle.layout.specs.declared.Place.{Place}
 use Rattle.layout.specs.declared.Lookup.the-variants.{Found, Missing}
-use Rattle.layout.proofs.Stretches.{byte-here, byte-behind}
 use Rattle.walk.specs.Walked.{Stands}
+use Rattle.walk.proofs.Roots.{root-byte, below-bytes}
 
 -- The rule p of the tree's state and symbol, with the trees below: its first word, and the word that the rest is to write.
 pub record Ruled (F S : List ℕ) (at levels : ℕ) (M : Table) (t : Tree) (w : Word) (p : Place) : Type 0 where
@@ -32,28 +32,11 @@ pub record Ruled (F S : List ℕ) (at levels : ℕ) (M : Table) (t : Tree) (w : 
   pub passed : at + 1 + length (preorders ts) ≡ at + length (preorder t)
 
 module _ (F I S : List ℕ) (at levels : ℕ) (M : Table) where
-  -- With no level allowed there is no tree.
-  pub no-levels : (t : Tree) → levels ≡ 0 → Stands F I S at levels M t → ⊥
-  unfolding Levels
-  no-levels (node f ts) e h = rw e at (h .levels)
-
-  -- Past the end of the bytes there is no tree.
-  pub no-bytes : (t : Tree) → length S ≤ at → Stands F I S at levels M t → ⊥
-  unfolding preorder
-  no-bytes (node f ts) l h =
-      let e : length (drop at S) ≡ suc (length (preorders ts ++ h .behind)) = ap (λ (x : List ℕ). length x) (h .bytes) in
-      omega (arith, e, length-drop at S)
-
-  -- The first byte of a tree is its symbol.
-  symbol-here : (f : ℕ) (ts : Forest) → Stands F I S at levels M (node f ts) → getD S at 0 ≡ f
-  unfolding preorder
-  symbol-here f ts h = byte-here S at f (preorders ts ++ h .behind) (h .bytes)
-
   -- Where no rule was found the tree has no word.
   pub no-rule : (q : ℕ) (t : Tree) (w : Word) → LookedUp F (find (M .rows) q (getD S at 0)) Missing → Stands F I S at levels M t → word M q t ≡ some w → ⊥
   no-rule q (node f ts) w l h e =
       let p = word-parts M q f ts w e in
-      rw (symbol-here f ts h, p .2) at l
+      rw (root-byte f ts h, p .2) at l
 
   -- Where a rule was found it writes the word.
   pub ruled : (q : ℕ) (t : Tree) (w : Word) (p : Place) → LookedUp F (find (M .rows) q (getD S at 0)) (Found p) → Stands F I S at levels M t → word M q t ≡ some w → Ruled F S at levels M t w p
@@ -65,15 +48,11 @@ module _ (F I S : List ℕ) (at levels : ℕ) (M : Table) where
         ts = ts;
         rest = a .1;
         behind = h .behind;
-        place = rw (symbol-here f ts h, a .2) at l;
+        place = rw (root-byte f ts h, a .2) at l;
         writes = a .3;
         whole = a .4;
-        bytes = byte-behind S at f (preorders ts ++ h .behind) (h .bytes);
+        bytes = below-bytes f ts h;
         ranked = h .ranked .2;
-        low = below levels (h .levels);
+        low = levels-below f ts levels (h .levels);
         passed = omega arith;
       }
-    where
-      below : (n : ℕ) → Levels (node f ts) n → Levelss ts (n - 1)
-      below zero x = absurd x
-      below (suc n) x = rw sub-one x

@@ -1,5 +1,6 @@
 -- Laws of the walk down a tree.
 pub mod Room
+pub mod Roots
 pub mod EvalRule
 pub mod EvalHeld
 pub mod EvalGoing

@@ -2,25 +2,26 @@
 use mathlib.Core.Path.{_≡_, refl, sym, ap, _∙_}
 use mathlib.Core.List.{List, _++_}
 use mathlib.Core.Option.{Option, none, some}
-use Prim.Native.Nat.{ℕ, zero, suc, _+_, _-_}
-use native.Mathlib.Numerals.{add-one, sub-one}
+use Prim.Native.Nat.{ℕ, suc, _+_, _-_}
+use native.Mathlib.Numerals.{add-one}
 use native.Mathlib.Omega.{arith}
-use lib.ListN.{length, getD, drop, length-append, length-drop}
+use lib.ListN.{length, getD, drop}
 use Rattle.machine.specs.Machine.{Tree, Forest, node, Child, Rule, Table, find, word, words}
 use Rattle.machine.specs.Ranks.{count, Rankeds}
 use Rattle.machine.proofs.Find.{find-fits}
 use Rattle.text.specs.Writing.{childrenText}
-use Rattle.trees.specs.Preorder.{preorder, preorders, Levels, Levelss}
+use Rattle.trees.specs.Preorder.{preorder, preorders, Levelss}
 use Rattle.trees.specs.Lacking.{lacks, lackss}
-use Rattle.trees.proofs.Preorder.{preorder-some}
+use Rattle.trees.proofs.Levels.{levels-below}
 use Rattle.layout.specs.Layout.{restLetters, restSpaces, ruleLetters, ruleSpaces}
 use Rattle.layout.specs.Leaves.{behindAt, LookedUp}
 use Rattle.layout.specs.declared.Place.{Place}
 use Rattle.layout.specs.declared.Lookup.{Lookup}
 use Rattle.layout.specs.declared.Lookup.the-variants.{Found, Missing}
-use Rattle.layout.proofs.Stretches.{byte-here, byte-behind, first-behind}
+use Rattle.layout.proofs.Stretches.{first-behind}
 use Rattle.walk.specs.Walked.{Stands, Measured}
 use Rattle.walk.specs.declared.Size.the-variants.{Lacks}
+use Rattle.walk.proofs.Roots.{root-byte, below-bytes}
 use Rattle.walk.proofs.MeasureRest.{Rest, rest-first}
 
 -- The children cs are left of the rule and the trees ts of the tree t: where they stand, and that they decide the whole.
@@ -40,12 +41,6 @@ pub record Left (F S : List ℕ) (at below q : ℕ) (M : Table) (t : Tree) (lett
 abbrev pub Going : (F S : List ℕ) (at below q : ℕ) (M : Table) (t : Tree) (letters gaps left next pos : ℕ) → Type 0
 Going F S at below q M t letters gaps left next pos = (cs : List Child) × (ts : Forest) × Left F S at below q M t letters gaps left next pos cs ts
 
--- The trees below a node have one level less.
-levels-below : (f : ℕ) (ts : Forest) (n : ℕ) → Levels (node f ts) n → Levelss ts (n - 1)
-unfolding Levels
-levels-below f ts zero h = absurd h
-levels-below f ts (suc n) h = rw sub-one h
-
 -- A tree ends where the trees below it end.
 node-end : (at f : ℕ) (ts : Forest) → at + 1 + length (preorders ts) ≡ at + length (preorder (node f ts))
 unfolding preorder
@@ -63,25 +58,6 @@ unfolding word lacks
 root-lacks M q f at n ts e = rw e refl
 
 module _ {F I S : List ℕ} {at levels : ℕ} {M : Table} where
-  -- No tree stands where no level is allowed.
-  pub no-level : (t : Tree) → Stands F I S at levels M t → levels ≡ 0 → ⊥
-  unfolding Levels
-  no-level (node f ts) h e = rw e at (h .levels)
-
-  -- No tree stands at the end of the bytes.
-  pub no-byte : (t : Tree) → Stands F I S at levels M t → at ≡ length S → ⊥
-  no-byte t h e = omega (arith, preorder-some t, length-drop at S, simp length-append at (ap length (h .bytes)))
-
-  -- A tree's symbol is the byte where it stands.
-  root-byte : (f : ℕ) (ts : Forest) → Stands F I S at levels M (node f ts) → getD S at 0 ≡ f
-  unfolding preorder
-  root-byte f ts h = byte-here S at f (preorders ts ++ h .behind) (h .bytes)
-
-  -- The trees below it stand behind it.
-  below-bytes : (f : ℕ) (ts : Forest) (h : Stands F I S at levels M (node f ts)) → drop (at + 1) S ≡ preorders ts ++ h .behind
-  unfolding preorder
-  below-bytes f ts h = byte-behind S at f (preorders ts ++ h .behind) (h .bytes)
-
   -- Where no rule is found, there is no word, and the tree's first position lacks its rule.
   pub missing-measured : (t : Tree) (q f : ℕ) (r : Lookup) → Stands F I S at levels M t → f ≡ getD S at 0 → r ≡ Missing → LookedUp F (find (M .rows) q f) r
       → Measured at (length (preorder t)) (word M q t) (lacks M q t at) (Lacks at)

@@ -13,6 +13,11 @@ levi (a ∷ u) (b ∷ v) x y e =
     ⊎-elim (λ h. inl (h .0, cc (h .1, head-eq-of-cons-eq e), h .2)) (λ h. inr (h .0, cc (h .1, head-eq-of-cons-eq e), h .2))
     (levi u v x y (tail-eq-of-cons-eq e))
 
+-- What is joined with a missing word is missing.
+pub none-right : (o : Option Word) → o ⊕ none ≡ none
+none-right none = refl
+none-right (some u) = refl
+
 -- What is joined behind a word is there if the whole is.
 pub right-of : (u : Word) (o : Option Word) (w : Word) → some u ⊕ o ≡ some w → (v : Word) × (o ≡ some v) × (u ++ v ≡ w)
 right-of u none w e = absurd (Option·none-ne-some w e)

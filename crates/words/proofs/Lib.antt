@@ -4,10 +4,14 @@
 --   Mirror  prefix-suffix, suffix-prefix: the prefixes of a set are the suffixes of the set read backwards
 --   Ends    when a set has a common prefix or suffix, and when it has none
 --   Terms   the spaces of words joined, and at most how many there are
+--   Replies given-injective, refuse-given, then-given and so on: what an answer tells of the answers that it is made of
+--   Tests   both-hold, second-fails, one-holds, both-fail: two tests joined
 --   Told    told-yes, told-no, told-map: a test's answer: yes, no, carried over
 pub mod Cut
 pub mod Strip
 pub mod Mirror
 pub mod Ends
 pub mod Terms
+pub mod Replies
+pub mod Tests
 pub mod Told

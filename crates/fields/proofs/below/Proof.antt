@@ -5,6 +5,7 @@ use native.Mathlib.Omega.{arith}
 use Rattle.text.specs.Fields as text
 use Rattle.text.proofs.Fields as read
 use Rattle.fields.proofs.Slices.{slice-none, slice-byte}
+use Rattle.text.proofs.Faults.{below-lacking, below-out}
 use Rattle.fields.proofs.Numbers as law
 use borrow.Author.Needs.{needs}
 use Rattle.fields.proofs.below.Statement.{statement}
@@ -13,7 +14,7 @@ use Rattle.fields.proofs.below.Tie as tie
 returns : tie.Need-returns
 returns c =
     let a = c .before .before .args in
-    law.number-fault (a .frames .now) (a .at) (a .end) 5 _ (law.below-lacking (a .n) _ (slice-none (a .frames .now) (a .at) (a .end) (c .if1 .taken)))
+    law.number-fault (a .frames .now) (a .at) (a .end) 5 _ (ap (text.below (a .n)) (slice-none (a .frames .now) (a .at) (a .end) (c .if1 .taken)) ∙ below-lacking (a .n))
 
 shared-slice-read-wide : tie.Need-shared-slice-read-wide
 shared-slice-read-wide c = search needs
@@ -34,7 +35,7 @@ returns-3 : tie.Need-returns-3
 returns-3 c =
     let a = c .before .before .before .before .before .args in
     let s = slice-byte (a .frames .now) (a .at) (a .end) (c .before .wide .result) (omega arith) (c .before .before .before .before .before .pre .1) (c .before .wide .ensures .0) in
-    law.number-fault (a .frames .now) (a .at) (a .end) 4 _ (ap (text.below (a .n)) s ∙ law.below-high (a .n) (c .before .wide .result) _ (omega arith))
+    law.number-fault (a .frames .now) (a .at) (a .end) 4 _ (ap (text.below (a .n)) s ∙ below-out (a .n) (c .before .wide .result) _ (omega arith))
 
 pub below-spec : {M : Type 1} → statement M
 below-spec =

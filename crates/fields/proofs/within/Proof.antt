@@ -5,6 +5,7 @@ use native.Mathlib.Omega.{arith}
 use Rattle.text.specs.Fields as text
 use Rattle.text.proofs.Fields as read
 use Rattle.fields.proofs.Slices.{slice-none, slice-byte}
+use Rattle.text.proofs.Faults.{within-lacking, within-small, within-large}
 use Rattle.fields.proofs.Numbers as law
 use borrow.Author.Needs.{needs}
 use Rattle.fields.proofs.within.Statement.{statement}
@@ -13,7 +14,7 @@ use Rattle.fields.proofs.within.Tie as tie
 returns : tie.Need-returns
 returns c =
     let a = c .before .before .args in
-    law.number-fault (a .frames .now) (a .at) (a .end) 5 _ (law.within-lacking (a .least) (a .most) _ (slice-none (a .frames .now) (a .at) (a .end) (c .if1 .taken)))
+    law.number-fault (a .frames .now) (a .at) (a .end) 5 _ (ap (text.within (a .least) (a .most)) (slice-none (a .frames .now) (a .at) (a .end) (c .if1 .taken)) ∙ within-lacking (a .least) (a .most))
 
 shared-slice-read-wide : tie.Need-shared-slice-read-wide
 shared-slice-read-wide c = search needs
@@ -25,13 +26,13 @@ returns-2 : tie.Need-returns-2
 returns-2 c =
     let a = c .before .before .before .before .before .args in
     let s = slice-byte (a .frames .now) (a .at) (a .end) (c .before .wide .result) (omega arith) (c .before .before .before .before .before .pre .1) (c .before .wide .ensures .0) in
-    law.number-fault (a .frames .now) (a .at) (a .end) 4 _ (ap (text.within (a .least) (a .most)) s ∙ law.within-low (a .least) (a .most) (c .before .wide .result) _ (c .if2 .taken))
+    law.number-fault (a .frames .now) (a .at) (a .end) 4 _ (ap (text.within (a .least) (a .most)) s ∙ within-small (a .least) (a .most) (c .before .wide .result) _ (c .if2 .taken))
 
 returns-3 : tie.Need-returns-3
 returns-3 c =
     let a = c .before .before .before .before .before .before .args in
     let s = slice-byte (a .frames .now) (a .at) (a .end) (c .before .before .wide .result) (omega arith) (c .before .before .before .before .before .before .pre .1) (c .before .before .wide .ensures .0) in
-    law.number-fault (a .frames .now) (a .at) (a .end) 4 _ (ap (text.within (a .least) (a .most)) s ∙ law.within-high (a .least) (a .most) (c .before .before .wide .result) _ (c .before .if2 .left) (c .if3 .taken))
+    law.number-fault (a .frames .now) (a .at) (a .end) 4 _ (ap (text.within (a .least) (a .most)) s ∙ within-large (a .least) (a .most) (c .before .before .wide .result) _ (c .before .if2 .left) (c .if3 .taken))
 
 add-t10 : tie.Need-add-t10
 add-t10 c = search needs

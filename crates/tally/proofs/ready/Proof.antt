@@ -1,5 +1,4 @@
 -- `ready` meets its contract: a place that is read back as it was written is there. Assumes nothing.
-use mathlib.Core.Path.{sym, _∙_}
 use Prim.Native.Nat.{_-_}
 use native.Mathlib.Omega.{arith}
 use borrow.Author.Needs.{needs}

@@ -1,17 +1,20 @@
 -- `measure` meets its contract. The loop's invariant: some children of the rule and as many trees are left, and they decide the whole;
 -- at most 256 letters and letters 20 for each symbol passed; the children left have their bytes below 20,000. Assumes nothing.
-use mathlib.Core.Path.{_≡_, _∙_}
+use mathlib.Core.Path.{_≡_, sym, _∙_}
 use mathlib.Core.Logic.{⊎-elim}
 use Prim.Native.Nat.{ℕ, _+_, _-_, _*_, _<_, _≤_}
+use native.Mathlib.Nat.{le-of-eq}
 use native.Mathlib.Omega.{arith}
 use borrow.Author.Needs.{needs}
 use lib.ListN.{length}
 use Rattle.machine.specs.Machine.{Tree, Table}
+use Rattle.trees.proofs.Levels.{no-level}
 use Rattle.walk.specs.Walked.{Stands}
 use borrow.Author.Tests.{eqb-true, eqb-false}
 use Rattle.walk.specs.declared.Size.the-variants.{Fits}
 use Rattle.walk.proofs.MeasureRest.{bounded-fits, bounded-lacks, tame-found}
-use Rattle.walk.proofs.MeasureLeft.{Going, no-level, no-byte, missing-measured, going-first}
+use Rattle.walk.proofs.Roots.{no-byte}
+use Rattle.walk.proofs.MeasureLeft.{Going, missing-measured, going-first}
 use Rattle.walk.proofs.MeasureTurns.{going-last, going-next, going-lost}
 use borrow.Fn.Kinds.{In}
 use borrow.Fn.PlainCycle.{Measures, is, falls, and}
@@ -92,7 +95,7 @@ module _ (t : ℕ) where
       bounded-fits (length (turn-start c .args .tree .now)) (turn-round c .loop .next) (c .measure .result) letters gaps next e (c .measure .ensures .1)
 
 measure-returns : (t : ℕ) → measure-lts.Need-returns (K t) (measure-at t) measure.Post measure-Inv-loop measure-μ-loop
-measure-returns t c = (λ M t′ h. absurd (⊎-elim (λ w. no-level t′ h (w .taken)) (λ w. no-byte t′ h (eqb-true _ _ (w .1 .taken))) (c .if1 .came)), c .before .before .before .before .pre .1 .0)
+measure-returns t c = (λ M t′ h. absurd (⊎-elim (λ w. no-level t′ _ (w .taken) (h .levels)) (λ w. no-byte t′ h (le-of-eq (sym (eqb-true _ _ (w .1 .taken))))) (c .if1 .came)), c .before .before .before .before .pre .1 .0)
 
 measure-shared-slice-read-wide : (t : ℕ) → measure-lts.Need-shared-slice-read-wide (K t) (measure-at t) measure.Post measure-Inv-loop measure-μ-loop
 measure-shared-slice-read-wide t c = omega (arith, c .before .if2 .left, eqb-false)

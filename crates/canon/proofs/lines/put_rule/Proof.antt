@@ -1,7 +1,8 @@
 -- `put_rule` meets its contract: the line of the rule that was found, or nothing.
 use native.Mathlib.Omega.{arith}
 use Rattle.machine.specs.Machine.{find}
-use Rattle.canon.proofs.Frames.{looked-as, tame-as, rule-found, rule-missing}
+use Rattle.layout.proofs.Lookups.{looked-as, tame-as}
+use Rattle.canon.proofs.Frames.{rule-found, rule-missing}
 use borrow.Author.Needs.{needs}
 use Rattle.canon.proofs.lines.put_rule.Statement.{statement}
 use Rattle.canon.proofs.lines.put_rule.Tie as tie

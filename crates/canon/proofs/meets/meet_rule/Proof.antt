@@ -1,7 +1,7 @@
 -- `meet_rule` meets its contract: the children of the rule that was found, or none.
 use native.Mathlib.Omega.{arith}
 use Rattle.machine.specs.Machine.{find}
-use Rattle.canon.proofs.Frames.{looked-as, tame-as}
+use Rattle.layout.proofs.Lookups.{looked-as, tame-as}
 use Rattle.canon.proofs.Meeting.{rule-gathered, rule-none}
 use borrow.Author.Needs.{needs}
 use Rattle.canon.proofs.meets.meet_rule.Statement.{statement}

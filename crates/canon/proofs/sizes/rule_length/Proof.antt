@@ -1,7 +1,7 @@
 -- `rule_length` meets its contract: the index tells the rule's letters and children.
 use native.Mathlib.Omega.{arith}
 use Rattle.machine.specs.Machine.{find}
-use Rattle.canon.proofs.Frames.{looked-as, tame-as}
+use Rattle.layout.proofs.Lookups.{looked-as, tame-as}
 use Rattle.canon.proofs.Lengths.{found-long, missing-long}
 use borrow.Author.Needs.{needs}
 use Rattle.canon.proofs.sizes.rule_length.Statement.{statement}

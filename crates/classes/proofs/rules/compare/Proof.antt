@@ -1,7 +1,8 @@
 -- `compare` meets its contract: the two rules are looked up, and the four cases are told apart.
 use borrow.Author.Needs.{needs}
 use Rattle.machine.specs.Machine.{find}
-use Rattle.classes.proofs.Rows.{tame-as, missing-missing, missing-found, found-missing, found-found}
+use Rattle.layout.proofs.Lookups.{tame-as}
+use Rattle.classes.proofs.Rows.{missing-missing, missing-found, found-missing, found-found}
 use Rattle.classes.proofs.rules.compare.Statement.{statement}
 use Rattle.classes.proofs.rules.compare.Tie as tie
 

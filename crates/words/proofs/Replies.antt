@@ -1,10 +1,10 @@
--- What an answer made by `then` or `refuse-if` tells of the answers that it is made of. Assumes nothing.
+-- What an answer made by `then` or `refuse-if` tells of the answers that it is made of.
 use mathlib.Core.Path.{_≡_, refl}
 use mathlib.Core.Bool.{Bool, true, false}
 use mathlib.Core.Logic.{_⊎_, inl, inr}
 use Prim.Native.Nat.{ℕ}
 use native.Mathlib.Omega.{arith}
 use Rattle.words.specs.Reply.{Reply, given, refused, _then_, refuse-if}
 
 module _ {A : Type 0} where
   -- A yes is no refusal.
