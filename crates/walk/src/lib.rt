@@ -128,18 +128,11 @@ pub fn eval(
     let mut pos = layout::behind(frames, place.at);
     while 0 < left {
         let state = layout::wide(layout::byte(frames, pos));
+        let lower = levels - 1;
         let Step::Wrote {
             letters,
             next: past,
-        } = eval(
-            levels - 1,
-            frames,
-            index,
-            tree,
-            next,
-            state,
-            &mut room[end..],
-        )
+        } = eval(lower, frames, index, tree, next, state, &mut room[end..])
         else {
             return Step::Lost;
         };

@@ -184,11 +184,11 @@ eval-byte-requires t c κs = search needs
 eval-wide-requires-2 : (t : ℕ) → eval-lts.Need-wide-requires-2 (K t) (eval-at t) eval.Post eval-Inv-loop eval-μ-loop
 eval-wide-requires-2 t c κs = search needs
 
+eval-sub-lower : (t : ℕ) → eval-lts.Need-sub-lower (K t) (eval-at t) eval.Post eval-Inv-loop eval-μ-loop
+eval-sub-lower t c = search needs
+
 eval-sub-eval : (t : ℕ) → eval-lts.Need-sub-eval (K t) (eval-at t) eval.Post eval-Inv-loop eval-μ-loop
 eval-sub-eval t c = search needs
-
-eval-sub-eval-2 : (t : ℕ) → eval-lts.Need-sub-eval-2 (K t) (eval-at t) eval.Post eval-Inv-loop eval-μ-loop
-eval-sub-eval-2 t c = search needs
 
 eval-part-eval-start : (t : ℕ) → eval-lts.Need-part-eval-start (K t) (eval-at t) eval.Post eval-Inv-loop eval-μ-loop
 eval-part-eval-start t c = search needs
@@ -313,8 +313,8 @@ pub +eval-spec : {M : Type 1} → statement M
     (eval-loop-holds t)
     (eval-byte-requires t)
     (eval-wide-requires-2 t)
+    (eval-sub-lower t)
     (eval-sub-eval t)
-    (eval-sub-eval-2 t)
     (eval-part-eval-start t)
     (eval-part-eval-end t)
     (eval-eval-requires t)
