@@ -37,11 +37,13 @@ fn leads(
 }
 
 // The state that stands for the class of q in the new round: the first before q that leads it, or q itself.
+// The number of its old class is the first state of that class, so none before that leads it.
 fn pick(frames: &[u8], index: &[u64], symbols: usize, rep: &[u8], next: &[u8], q: usize) -> usize
+    requires { ⌜ Low (now rep) ⌝ }
     ensures { λ r. ⌜ (r ≤ q) × Alike (now (rep .entry)) q r ⌝ }
     ensures { λ r. ⌜ ((M : Table) → Meant (now (frames .entry)) (now (index .entry)) symbols M → Picked M (now (rep .entry)) (now (next .entry)) q r) ⌝ }
 {
-    let mut r: usize = 0;
+    let mut r = layout::wide(layout::byte(rep, q));
     while r < q {
         if leads(frames, index, symbols, rep, next, q, r) {
             return r;

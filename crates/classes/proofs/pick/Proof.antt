@@ -1,9 +1,10 @@
 -- `pick` meets its contract: no state passed leads q.
-use mathlib.Core.Path.{refl}
+use mathlib.Core.Path.{_≡_, refl, _∙_}
 use Prim.Native.Nat.{ℕ, _-_, _<_, _≤_}
 use native.Mathlib.Omega.{arith}
 use borrow.Author.Needs.{needs}
 use borrow.Author.Count.{below-more}
+use lib.ListN.{getD}
 use Rattle.machine.specs.Machine.{Table}
 use Rattle.classes.specs.Rounds.{Meant, Leads}
 use Rattle.classes.proofs.Pairs.{picked-self, picked-first}
@@ -16,15 +17,25 @@ Inv-loop frames index symbols rep next q r₀ r = (r ≤ q) × ((M : Table) → 
 abbrev μ-loop : tie.MeasureT-loop
 μ-loop frames index symbols rep next q r₀ r = q - r
 
+byte-requires : tie.Need-byte-requires Inv-loop μ-loop
+byte-requires c κs = search needs
+
+wide-requires : tie.Need-wide-requires Inv-loop μ-loop
+wide-requires c κs = search needs
+
 loop-holds : tie.Need-loop-holds Inv-loop μ-loop
-loop-holds c = search needs
+loop-holds c =
+    let a = c .before .before .before .before .before .before .args in
+    let low = c .before .before .before .before .before .before .pre in
+    let first : c .wide .result ≡ getD (a .rep .now) (a .q) 0 = c .wide .ensures .0 ∙ c .before .byte .ensures in
+    (omega (arith, first, low (a .q)), λ M m p h d. absurd (omega (arith, first, low p, d .pair .alike)))
 
 leads-requires : tie.Need-leads-requires Inv-loop μ-loop
 leads-requires c κs = search needs
 
 returns : tie.Need-returns Inv-loop μ-loop
 returns c =
-    let a = c .before .before .before .before .before .before .before .before .args in
+    let a = c .before .before .before .before .before .before .before .before .before .before .args in
     let l = c .before .before .before .loop in
     let d = c .before .leads .ensures in
     ((omega arith, d .0 (c .if1 .taken)), λ M m. picked-first M (a .rep .now) (a .next .now) (a .q) (l .r) (d .1 M m .if-true (c .if1 .taken)) (l .inv .1 M m))
@@ -37,13 +48,13 @@ loop-less c = search needs
 
 loop-again : tie.Need-loop-again Inv-loop μ-loop
 loop-again c =
-    let a = c .before .before .before .before .before .before .before .before .args in
+    let a = c .before .before .before .before .before .before .before .before .before .before .args in
     let l = c .before .before .before .loop in
     (omega arith, λ M m. below-more (λ (p : ℕ). Leads M (a .rep .now) (a .next .now) (a .q) p → ⊥) (l .r) (l .inv .1 M m) (c .before .leads .ensures .1 M m .if-false (c .if1 .left)))
 
 returns-2 : tie.Need-returns-2 Inv-loop μ-loop
 returns-2 c =
-    let a = c .before .before .before .before .before .before .args in
+    let a = c .before .before .before .before .before .before .before .before .args in
     ((omega arith, refl), λ M m. picked-self M (a .rep .now) (a .next .now) (a .q) (λ p h. c .before .loop .inv .1 M m p (omega arith)))
 
 pub pick-spec : {M : Type 1} → statement M
@@ -52,6 +63,8 @@ pick-spec =
     (tie.spec
     Inv-loop
     μ-loop
+    byte-requires
+    wide-requires
     loop-holds
     leads-requires
     returns
