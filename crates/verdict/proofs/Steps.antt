@@ -1,13 +1,14 @@
 -- Sweeps over the rows: what one row adds, and all rows in turn.
 use mathlib.Core.Path.{_≡_, refl, sym, ap, _∙_, subst}
+use mathlib.Core.Bool.{Bool, true, false, _&&_, _||_}
 use mathlib.Core.List.{List, [], _∷_, map}
 use Prim.Native.Nat.{ℕ, zero, suc, _+_, _-_, _≤_, _<_}
 use native.Mathlib.Numerals.{sub-one}
 use native.Mathlib.Omega.{arith}
 use lib.ListN.{length, getD, set, length-map, length-set, List·getD-map}
-use lib.Seq.{set-out}
+use lib.Seq.{set-out, set-getD}
 use Rattle.machine.specs.Machine.{Row}
-use Rattle.ends.specs.Ends.{Side, Ends, join, value, rank, at, ranks}
+use Rattle.ends.specs.Ends.{Side, left, right, end, several, Ends, unknown, alone, both, join, lives, through, beside, along, value, rank, at, ranks}
 use Rattle.ends.specs.Companion.{visit, sweep}
 use Rattle.ends.proofs.Ranks.{join-rank, ranks-le, ranks-set}
 use Rattle.ends.proofs.Known.{sweep-rests}
@@ -34,8 +35,42 @@ summary-all xs = λ i q. summary-at xs q i
 pub ranks-most : (xs : List ℕ) → length xs ≡ 64 → ranks (summaries xs) ≤ 192
 ranks-most xs l = omega (arith, ranks-le (summaries xs), length-map xs decode)
 
+-- ---- a row that adds nothing
+-- Words that are joined to others with a letter at their end are not empty.
+beside-lettered : (side : Side) (x y : Ends) → x .empty ≡ false → beside side x y .empty ≡ false
+beside-lettered left x y e = go (lives x && lives y)
+  where
+    go : (t : Bool) → (elim t as (λ b. Ends) [ true ↦ record { empty = x .empty && y .empty; letters = through (x .empty) (x .letters) (y .letters) } | false ↦ unknown ]) .empty ≡ false
+    go true = ap (λ b. b && y .empty) e
+    go false = refl
+beside-lettered right x y e = go (lives y && lives x)
+  where
+    off : (b : Bool) → b && false ≡ false
+    off true = refl
+    off false = refl
+
+    go : (t : Bool) → (elim t as (λ b. Ends) [ true ↦ record { empty = y .empty && x .empty; letters = through (y .empty) (y .letters) (x .letters) } | false ↦ unknown ]) .empty ≡ false
+    go true = ap (λ b. y .empty && b) e ∙ off (y .empty)
+    go false = refl
+
+-- A summary with several letters is not changed by words of which none is empty.
+join-sated : (x y : Ends) → x .letters ≡ several → y .empty ≡ false → join x y ≡ x
+join-sated x y e f = λ i. record { empty = (ap (λ b. x .empty || b) f ∙ off (x .empty)) i; letters = (ap (λ l. both l (y .letters)) e ∙ sym e) i }
+  where
+    off : (b : Bool) → b || false ≡ b
+    off true = refl
+    off false = refl
+
 -- ---- one row
 module _ (side : Side) (row : Row) (xs : List ℕ) where
+  -- A row that begins with a letter adds nothing to several letters.
+  pub risen-none : K xs (row .state) .letters ≡ several → alone (end side (row .rule .first)) .empty ≡ false → Risen xs xs 0 (visit side row (summaries xs))
+  unfolding visit
+  risen-none e f = record { long = refl; meets = sym (ap (set (summaries xs) (row .state)) still ∙ set-getD (summaries xs) (row .state) unknown); counts = omega arith }
+    where
+      still : join (at (summaries xs) (row .state)) (value side (at (summaries xs)) (row .rule)) ≡ at (summaries xs) (row .state)
+      still = join-sated _ _ (ap (λ x. x .letters) (summary-at xs (row .state)) ∙ e) (beside-lettered side (alone (end side (row .rule .first))) (along side (at (summaries xs)) (row .rule .rest)) f)
+
   -- A row of a state that has no place adds nothing.
   pub risen-out : length xs ≤ row .state → Risen xs xs 0 (visit side row (summaries xs))
   unfolding visit

@@ -1,12 +1,13 @@
 -- What steps do to the numbers that are kept for the states, and when they come to rest. Definitions only.
 use mathlib.Core.Path.{_≡_}
-use mathlib.Core.Bool.{Bool}
+use mathlib.Core.Bool.{Bool, false}
 use mathlib.Core.List.{List}
 use Prim.Native.Nat.{ℕ, zero, suc, _+_}
 use lib.ListN.{length}
 use Rattle.machine.specs.Machine.{Row}
-use Rattle.ends.specs.Ends.{Side, Ends, ranks}
+use Rattle.ends.specs.Ends.{Side, end, several, Ends, alone, ranks}
 use Rattle.ends.specs.Companion.{sweep, marked, spread}
+use Rattle.layout.specs.Leaves.{wordAt}
 use Rattle.verdict.specs.Codes.{summaries, flags}
 
 -- The numbers xs become ys, in which is seen what was wanted, and k tells how much its size rose.
@@ -34,6 +35,11 @@ Risen xs ys k wanted = Stepped summaries ranks xs ys k wanted
 -- The summaries ys are what sweeps over the rows make of xs, and one more adds nothing.
 abbrev pub Swept : Side → List Row → List ℕ → List ℕ → Type 0
 Swept side rows xs ys = Rested summaries ranks (sweep side rows) xs ys
+
+-- The summary x has several letters, and the first word of the row at p is not empty: so the row adds nothing to x.
+pub record Sated (side : Side) (F : List ℕ) (p : ℕ) (x : Ends) : Type 0 where
+  pub letters : x .letters ≡ several
+  pub lettered : alone (end side (wordAt F (p + 3))) .empty ≡ false
 
 -- The marks become those that were wanted, and k tells how many more there are.
 abbrev pub Marked : List ℕ → List ℕ → ℕ → List Bool → Type 0

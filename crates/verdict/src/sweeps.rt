@@ -1,12 +1,13 @@
 // The summaries of all states, by sweeps over the rows until nothing is added.
 ghost use mathlib.Core.Path.{_≡_};
+ghost use mathlib.Core.Bool.{true};
 ghost use Prim.Native.Nat.{_≤_};
 ghost use lib.ListN.{length, getD};
 ghost use Rattle.ends.specs.Ends.{value};
 ghost use Rattle.ends.specs.Companion.{visit, sweep};
 ghost use Rattle.verdict.specs.Codes.{sideOf, decode, K, withChild, summaries};
 ghost use Rattle.verdict.specs.Reading.{rowAt, rowsAt};
-ghost use Rattle.verdict.specs.Steps.{Risen, Swept};
+ghost use Rattle.verdict.specs.Steps.{Risen, Swept, Sated};
 use crate::row::kids_at;
 use crate::row::past;
 use crate::row::past_row;
@@ -50,6 +51,20 @@ fn row_value(frames: &[u8], at: usize, side: u8, values: &[u16]) -> u16
     x
 }
 
+// Whether the row at `at` can add nothing to the summary x: that has several letters, and the row's first word is not empty.
+fn adds_nothing(frames: &[u8], at: usize, side: u8, x: u16) -> bool
+    requires { ⌜ at ≤ 32768 ⌝ }
+    ensures { λ r. ⌜ (r ≡ true → Sated (sideOf side) (now (frames .entry)) at (decode x)) ⌝ }
+{
+    if x % 1024 < 257 {
+        return false;
+    }
+    if alone_at(frames, at + 3, side) < 1024 {
+        return true;
+    }
+    false
+}
+
 // Joins the summary of the row at `at` into its state's, and says how much that added.
 fn add_row(frames: &[u8], at: usize, side: u8, values: &mut [u16]) -> usize
     requires { ⌜ at ≤ 32768 ⌝ }
@@ -60,6 +75,9 @@ fn add_row(frames: &[u8], at: usize, side: u8, values: &mut [u16]) -> usize
         return 0;
     }
     let old = values[q];
+    if adds_nothing(frames, at, side, old) {
+        return 0;
+    }
     let new = joined(old, row_value(frames, at, side, values));
     values[q] = new;
     rank_of(new) - rank_of(old)

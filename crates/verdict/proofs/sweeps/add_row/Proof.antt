@@ -1,9 +1,9 @@
 -- `add_row` meets its contract: a state without a place, or how much its summary rises.
-use mathlib.Core.Path.{_∙_}
+use mathlib.Core.Path.{sym, ap, _∙_}
 use native.Mathlib.Omega.{arith}
-use Rattle.verdict.specs.Codes.{sideOf}
+use Rattle.verdict.specs.Codes.{sideOf, K}
 use Rattle.verdict.specs.Reading.{rowAt}
-use Rattle.verdict.proofs.Steps.{risen-out, risen-one}
+use Rattle.verdict.proofs.Steps.{risen-out, risen-one, risen-none}
 use borrow.Author.Needs.{needs}
 use Rattle.verdict.proofs.sweeps.add_row.Statement.{statement}
 use Rattle.verdict.proofs.sweeps.add_row.Tie as tie
@@ -28,6 +28,15 @@ mul-old c = search needs
 slice-read-old : tie.Need-slice-read-old
 slice-read-old c = search needs
 
+adds-nothing-requires : tie.Need-adds-nothing-requires
+adds-nothing-requires c κs = search needs
+
+returns-2 : tie.Need-returns-2
+returns-2 c =
+    let a = c .before .before .before .before .before .before .before .before .args in
+    let sated = c .before .adds-nothing .ensures (c .if2 .taken) in
+    risen-none (sideOf (a .side)) (rowAt (a .frames .now) (a .at)) (a .values .now) (ap (λ q. K (a .values .now) q .letters) (sym (c .before .before .before .before .wide .ensures .0 ∙ c .before .before .before .before .before .byte .ensures)) ∙ sated .letters) (sated .lettered)
+
 row-value-requires : tie.Need-row-value-requires
 row-value-requires c κs = search needs
 
@@ -48,16 +57,16 @@ rank-of-requires-2 c κs = search needs
 
 sub-result : tie.Need-sub-result
 sub-result c =
-    let a = c .before .before .before .before .before .before .before .before .before .before .before .args in
-    omega (arith, risen-one (sideOf (a .side)) (rowAt (a .frames .now) (a .at)) (a .values .now) (c .before .before .before .before .before .before .before .wide .result) (c .before .before .before .row-value .result) (c .before .before .joined .result) (c .rank-of2 .result) (c .before .rank-of .result) (c .before .before .before .before .before .before .before .wide .ensures .0 ∙ c .before .before .before .before .before .before .before .before .byte .ensures) (omega arith) (c .before .before .before .row-value .ensures) (c .before .before .joined .ensures) (c .before .rank-of .ensures) (c .rank-of2 .ensures) .0)
+    let a = c .before .before .before .before .before .before .before .before .before .before .before .before .before .args in
+    omega (arith, risen-one (sideOf (a .side)) (rowAt (a .frames .now) (a .at)) (a .values .now) (c .before .before .before .before .before .before .before .before .before .wide .result) (c .before .before .before .row-value .result) (c .before .before .joined .result) (c .rank-of2 .result) (c .before .rank-of .result) (c .before .before .before .before .before .before .before .before .before .wide .ensures .0 ∙ c .before .before .before .before .before .before .before .before .before .before .byte .ensures) (omega arith) (c .before .before .before .row-value .ensures) (c .before .before .joined .ensures) (c .before .rank-of .ensures) (c .rank-of2 .ensures) .0)
 
 same-length : tie.Need-same-length
 same-length c = search needs
 
-returns-2 : tie.Need-returns-2
-returns-2 c =
-    let a = c .before .before .before .before .before .before .before .before .before .before .before .args in
-    risen-one (sideOf (a .side)) (rowAt (a .frames .now) (a .at)) (a .values .now) (c .before .before .before .before .before .before .before .wide .result) (c .before .before .before .row-value .result) (c .before .before .joined .result) (c .rank-of2 .result) (c .before .rank-of .result) (c .before .before .before .before .before .before .before .wide .ensures .0 ∙ c .before .before .before .before .before .before .before .before .byte .ensures) (omega arith) (c .before .before .before .row-value .ensures) (c .before .before .joined .ensures) (c .before .rank-of .ensures) (c .rank-of2 .ensures) .1
+returns-3 : tie.Need-returns-3
+returns-3 c =
+    let a = c .before .before .before .before .before .before .before .before .before .before .before .before .before .args in
+    risen-one (sideOf (a .side)) (rowAt (a .frames .now) (a .at)) (a .values .now) (c .before .before .before .before .before .before .before .before .before .wide .result) (c .before .before .before .row-value .result) (c .before .before .joined .result) (c .rank-of2 .result) (c .before .rank-of .result) (c .before .before .before .before .before .before .before .before .before .wide .ensures .0 ∙ c .before .before .before .before .before .before .before .before .before .before .byte .ensures) (omega arith) (c .before .before .before .row-value .ensures) (c .before .before .joined .ensures) (c .before .rank-of .ensures) (c .rank-of2 .ensures) .1
 
 pub add-row-spec : {M : Type 1} → statement M
 add-row-spec =
@@ -69,6 +78,8 @@ add-row-spec =
     returns
     mul-old
     slice-read-old
+    adds-nothing-requires
+    returns-2
     row-value-requires
     joined-requires
     mul-values
@@ -77,4 +88,4 @@ add-row-spec =
     rank-of-requires-2
     sub-result
     same-length
-    returns-2)
+    returns-3)
