@@ -2,13 +2,15 @@
 use mathlib.Core.Path.{_≡_}
 use mathlib.Core.Bool.{Bool, false}
 use mathlib.Core.List.{List}
-use Prim.Native.Nat.{ℕ, zero, suc, _+_}
+use Prim.Native.Nat.{ℕ, zero, suc, _+_, _≤_}
 use lib.ListN.{length}
 use Rattle.machine.specs.Machine.{Row}
 use Rattle.ends.specs.Ends.{Side, end, several, Ends, alone, ranks}
 use Rattle.ends.specs.Companion.{sweep, marked, spread}
 use Rattle.layout.specs.Leaves.{wordAt}
 use Rattle.verdict.specs.Codes.{summaries, flags}
+use Rattle.verdict.specs.Reading.{rowEnd}
+use Rattle.verdict.specs.declared.reach.Walk.{Walk}
 
 -- The numbers xs become ys, in which is seen what was wanted, and k tells how much its size rose.
 pub record Stepped {A : Type 0} (see : List ℕ → A) (size : A → ℕ) (xs ys : List ℕ) (k : ℕ) (wanted : A) : Type 0 where
@@ -44,6 +46,12 @@ pub record Sated (side : Side) (F : List ℕ) (p : ℕ) (x : Ends) : Type 0 wher
 -- The marks become those that were wanted, and k tells how many more there are.
 abbrev pub Marked : List ℕ → List ℕ → ℕ → List Bool → Type 0
 Marked m n k wanted = Stepped flags marked m n k wanted
+
+-- The marks become those that were wanted; the walk along the row at p tells how many more there are, and where what follows the row stands.
+pub record Along (F : List ℕ) (p : ℕ) (m n : List ℕ) (walk : Walk) (wanted : List Bool) : Type 0 where
+  pub marks : Marked m n (walk .count) wanted
+  pub next : walk .next ≡ rowEnd F p
+  pub near : walk .next ≤ 32768
 
 -- The marks n are what going over the rows makes of m, and once more marks no state more.
 abbrev pub Spread : List Row → List ℕ → List ℕ → Type 0

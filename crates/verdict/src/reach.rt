@@ -6,12 +6,18 @@ ghost use lib.ListN.{length, set};
 ghost use Rattle.ends.specs.Companion.{markAll, follow, spread};
 ghost use Rattle.verdict.specs.Codes.{flags};
 ghost use Rattle.verdict.specs.Reading.{rowAt, rowsAt};
-ghost use Rattle.verdict.specs.Steps.{Marked, Spread};
+ghost use Rattle.verdict.specs.Steps.{Marked, Along, Spread};
 use crate::row::kids_at;
 use crate::row::past;
 use crate::row::past_row;
 use layout::byte;
 use layout::wide;
+
+// What going along a row comes to: how many states it marked, and where what follows the row stands.
+pub struct Walk {
+    pub count: usize,
+    pub next: usize,
+}
 
 // Marks a state, and says how many states that marked: 0 or 1.
 pub fn mark_at(marks: &mut [u8], q: usize) -> usize
@@ -28,9 +34,9 @@ pub fn mark_at(marks: &mut [u8], q: usize) -> usize
 }
 
 // Marks the children of the row at `at`.
-fn mark_rest(frames: &[u8], at: usize, marks: &mut [u8]) -> usize
+fn mark_rest(frames: &[u8], at: usize, marks: &mut [u8]) -> Walk
     requires { ⌜ (at ≤ 32768) × (length (now marks) ≡ 64) ⌝ }
-    ensures { λ r. ⌜ Marked (now (marks .entry)) (now (marks .exit)) r (markAll (rowAt (now (frames .entry)) at .rule .rest) (flags (now (marks .entry)))) ⌝ }
+    ensures { λ r. ⌜ Along (now (frames .entry)) at (now (marks .entry)) (now (marks .exit)) r (markAll (rowAt (now (frames .entry)) at .rule .rest) (flags (now (marks .entry)))) ⌝ }
 {
     let mut kids = kids_at(frames, at);
     let mut p = past(frames, at + 3);
@@ -41,17 +47,20 @@ fn mark_rest(frames: &[u8], at: usize, marks: &mut [u8]) -> usize
         p = past(frames, p + 1);
         kids -= 1;
     }
-    k
+    Walk { count: k, next: p }
 }
 
 // Marks the children of the row at `at` if its state is marked.
-fn mark_row(frames: &[u8], at: usize, marks: &mut [u8]) -> usize
+fn mark_row(frames: &[u8], at: usize, marks: &mut [u8]) -> Walk
     requires { ⌜ (at ≤ 32768) × (length (now marks) ≡ 64) ⌝ }
-    ensures { λ r. ⌜ Marked (now (marks .entry)) (now (marks .exit)) r (follow (rowAt (now (frames .entry)) at) (flags (now (marks .entry)))) ⌝ }
+    ensures { λ r. ⌜ Along (now (frames .entry)) at (now (marks .entry)) (now (marks .exit)) r (follow (rowAt (now (frames .entry)) at) (flags (now (marks .entry)))) ⌝ }
 {
     let q = wide(byte(frames, at + 1));
     if byte(marks, q) != 1 {
-        return 0;
+        return Walk {
+            count: 0,
+            next: past_row(frames, at),
+        };
     }
     mark_rest(frames, at, marks)
 }
@@ -65,8 +74,9 @@ fn mark_rows(frames: &[u8], rows: usize, rules: usize, marks: &mut [u8]) -> usiz
     let mut p = rows;
     let mut k: usize = 0;
     while 0 < left {
-        k += mark_row(frames, p, marks);
-        p = past_row(frames, p);
+        let walk = mark_row(frames, p, marks);
+        k += walk.count;
+        p = walk.next;
         left -= 1;
     }
     k

@@ -26,10 +26,7 @@ mark-row-requires : tie.Need-mark-row-requires Inv-loop μ-loop
 mark-row-requires c κs = (c .before .before .loop .inv .near, c .before .before .loop .inv .long ∙ c .before .before .before .before .before .pre .1)
 
 add-k : tie.Need-add-k Inv-loop μ-loop
-add-k c = omega (arith, going-most 64 marked-most (c .before .before .before .before .before .before .before .before .pre .1) (c .before .before .before .before .before .loop .inv) (c .before .before .mark-row .ensures))
-
-past-row-requires : tie.Need-past-row-requires Inv-loop μ-loop
-past-row-requires c κs = c .before .before .before .before .before .loop .inv .near
+add-k c = omega (arith, going-most 64 marked-most (c .before .before .before .before .before .before .before .before .before .pre .1) (c .before .before .before .before .before .before .loop .inv) (c .before .before .before .mark-row .ensures .marks))
 
 sub-left : tie.Need-sub-left Inv-loop μ-loop
 sub-left c = search needs
@@ -39,12 +36,14 @@ loop-less c = search needs
 
 loop-again : tie.Need-loop-again Inv-loop μ-loop
 loop-again c =
+    let w = c .before .before .before .mark-row .result in
+    let d = c .before .before .before .mark-row .ensures in
     let F = c .before .before .before .before .before .before .before .before .before .args .frames .now in
     let p = c .before .before .before .before .before .before .loop .p in
     let left = c .before .before .before .before .before .before .loop .left in
-    going-more (c .before .before .before .before .before .before .loop .inv) (follow (rowAt F p)) (c .before .before .before .mark-row .ensures) (spread (rowsAt F (c .past-row .result) (left - 1)))
-    (λ ms. spread-more F p left (c .before .before .before .before .before .loop-test .taken) ms ∙ ap (λ x. spread (rowsAt F x (left - 1)) (follow (rowAt F p) ms)) (sym (c .past-row .ensures .0)))
-    (c .past-row .result) (c .past-row .ensures .1)
+    going-more (c .before .before .before .before .before .before .loop .inv) (follow (rowAt F p)) (c .before .before .before .mark-row .ensures .marks) (spread (rowsAt F (w .next) (left - 1)))
+    (λ ms. spread-more F p left (c .before .before .before .before .before .loop-test .taken) ms ∙ ap (λ x. spread (rowsAt F x (left - 1)) (follow (rowAt F p) ms)) (sym (d .next)))
+    (w .next) (d .near)
 
 same-length : tie.Need-same-length Inv-loop μ-loop
 same-length c = c .before .loop .inv .long
@@ -61,7 +60,6 @@ mark-rows-spec =
     loop-holds
     mark-row-requires
     add-k
-    past-row-requires
     sub-left
     loop-less
     loop-again
