@@ -2,7 +2,7 @@
 use mathlib.Core.Path.{_≡_, refl, sym, ap, _∙_}
 use mathlib.Core.List.{List, [], _∷_, _++_, append-assoc, append-nil}
 use mathlib.Core.Option.{Option, none, some}
-use Prim.Native.Nat.{ℕ, suc, _+_, _-_, _*_, _<_, _≤_}
+use Prim.Native.Nat.{ℕ, suc, _+_, _-_, _*_, _/_, _%_, _<_, _≤_}
 use native.Mathlib.Numerals.{add-one}
 use native.Mathlib.Omega.{arith}
 use native.Mathlib.Nat.{add-zero}
@@ -17,12 +17,12 @@ use Rattle.lines.specs.declared.Line.the-variants.{Whole, Bad}
 -- ---- a digit's value
 
 -- From 0 to 9.
-pub value-low : (c : ℕ) → 48 ≤ c → c ≤ 57 → c - 48 ≡ valueOr16 (digit c)
+pub value-low : (c : ℕ) → 48 ≤ c → c ≤ 57 → c % 16 + c / 64 * 9 ≡ valueOr16 (digit c)
 unfolding digit
-value-low c h k = rw (le-leb 48 c h, le-leb c 57 k, digit)
+value-low c h k = rw (le-leb 48 c h, le-leb c 57 k, digit) (omega arith)
 
 -- From a to f.
-pub value-high : (c : ℕ) → 97 ≤ c → c ≤ 102 → c - 87 ≡ valueOr16 (digit c)
+pub value-high : (c : ℕ) → 97 ≤ c → c ≤ 102 → c % 16 + c / 64 * 9 ≡ valueOr16 (digit c)
 unfolding digit
 value-high c h k = rw (le-leb 48 c (omega arith), lt-leb c 57 (omega arith), le-leb 97 c h, le-leb c 102 k, digit) (omega arith)
 
