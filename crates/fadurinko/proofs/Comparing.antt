@@ -3,9 +3,9 @@ use mathlib.Core.Path.{_≡_, refl, sym, ap, subst, subst⁻¹, _∙_}
 use mathlib.Core.List.{List, [], _∷_, _++_, append-assoc}
 use Prim.Native.Nat.{ℕ, _+_, _*_, _≤_}
 use native.Mathlib.Omega.{arith}
-use borrow.Author.Tests.{le-ltb}
 use lib.ListN.{length, getD, drop}
 use Rattle.words.specs.Reply.{Reply, given, refused, mapped}
+use Rattle.words.proofs.Replies.{given-injective, given-refused}
 use Rattle.machine.specs.Machine.{Table}
 use Rattle.machine.specs.Verdict.{Verdict, late}
 use Rattle.machine.specs.Form.{formOf, IsForm}
@@ -22,6 +22,7 @@ use Rattle.promises.specs.Comparison.{parting, ComparisonAnswer}
 use Rattle.former.specs.declared.Formed.{Formed}
 use Rattle.former.specs.declared.Formed.the-variants as formed
 use Rattle.former.specs.Formed.{said, SymbolsTold, Answers}
+use Rattle.former.proofs.Forms.{into-fits}
 use Rattle.fadurinko.specs.declared.Compared.{Compared}
 use Rattle.fadurinko.specs.declared.Compared.the-variants as compared
 use Rattle.fadurinko.specs.declared.Parted.{Parted}
@@ -83,17 +84,13 @@ stood-symbols X n s F l f e =
       digits = λ i h. ap (λ (x : List ℕ). getD x (3 + 5 * i) 0) (f .bytes ∙ w .1) ∙ symbol-digit (F .arities) (w .0) i (l .arities) h;
     }
 
--- In a room that is long enough the output is the answer.
-into-fits : (room : ℕ) (out : List ℕ) → length out ≤ room → into room (given out) ≡ given out
-into-fits room out h = rw (le-ltb room (length out) h)
-
 module _ (text R R′ : List ℕ) (long : length R ≡ 32768) where
   -- The form's text is never longer than the room.
   form-fits : (out : List ℕ) → FormText text (given out) → into (length R) (given out) ≡ given out
   form-fits out f =
       let l = of-limited text (f .0) (f .1) .text in
       let e : length out ≡ length (writeTable (f .0)) = ap (λ (x : List ℕ). length x) (f .2) in
-      into-fits (length R) out (omega arith)
+      into-fits R out (omega arith)
 
   -- What a form call in this room tells by its answer.
   abbrev Tells : Formed → Type 0
@@ -107,30 +104,17 @@ module _ (text R R′ : List ℕ) (long : length R ≡ 32768) where
       let l = of-limited text F (f .1) in
       let g : Front R′ n (writeTable F) =
       record {
-        count = given-one n (length out) e ∙ ap (λ (x : List ℕ). length x) (f .2);
+        count = given-injective n (length out) e ∙ ap (λ (x : List ℕ). length x) (f .2);
         behind = drop (length out) R;
         bytes = room ∙ ap (λ (x : List ℕ). x ++ drop (length out) R) (f .2);
       } in
       let k = told (f .1 .table) (f .1 .read) ∙ ap (λ (x : List ℕ). length x) (form-arities (f .1 .table) F (f .1 .form)) in
       record { form = F; of = f .1; limited = l; front = g; symbols = stood-symbols R′ n s F l g k }
-    where
-      given-one : (a b : ℕ) → given a ≡ given b → a ≡ b
-      given-one a b e = cc
-  tells-given (formed.Refused q) out f e room told = absurd (no (q .number) (q .place) (length out) e)
-    where
-      no : (n p k : ℕ) → refused n p ≡ given k → ⊥
-      no n p k e =
-          let z : _≡_ {A = ℕ} 0 1 = cc in
-          omega arith
+  tells-given (formed.Refused q) out f e room told = absurd (given-refused (length out) (q .number) (q .place) (sym e))
 
   -- Where there is none, the call tells the judgement's refusal.
   tells-refused : (r : Formed) (n p : ℕ) → JudgementAnswer text (late n p) → said r ≡ refused n p → Tells r
-  tells-refused (formed.Form k s) n p j e = absurd (no k n p e)
-    where
-      no : (k n p : ℕ) → given k ≡ refused n p → ⊥
-      no k n p e =
-          let z : _≡_ {A = ℕ} 0 1 = cc in
-          omega arith
+  tells-refused (formed.Form k s) n p j e = absurd (given-refused k n p e)
   tells-refused (formed.Refused q) n p j e = subst⁻¹ (λ (v : Verdict). JudgementAnswer text v) (late-one (q .number) (q .place) n p e) j
     where
       late-one : (a b c d : ℕ) → _≡_ {A = Reply ℕ} (refused a b) (refused c d) → late a b ≡ late c d

@@ -37,7 +37,7 @@ into-short : (R out : List ℕ) → length R < length out → into (length R) (g
 into-short R out h = rw (lt-ltb (length R) (length out) h)
 
 -- A room that is long enough: the output.
-into-fits : (R out : List ℕ) → length out ≤ length R → into (length R) (given out) ≡ given out
+pub into-fits : (R out : List ℕ) → length out ≤ length R → into (length R) (given out) ≡ given out
 into-fits R out h = rw (le-ltb (length R) (length out) h)
 
 -- A refusal is no form.
