@@ -5,9 +5,9 @@
  *
  * Link with target/staticlib/libfadurinko_c.a, which `rt staticlib fadurinko_c` writes (x86-64).
  * Nothing here allocates, keeps anything between calls, reads a file or prints. Calls may run on
- * several threads at once if no two of them write to the same bytes. Stack, as measured: about 170
- * kilobytes for a comparison, 105 for a word, judgement or form by a text, 55 for opening a table, 15
- * for a call on an opened table.
+ * several threads at once if no two of them write to the same bytes. Stack, as measured: about 235
+ * kilobytes for a word by a text, 170 for a comparison, 105 for a judgement or form by a text, 55 for
+ * opening a table, 15 for a call on an opened table.
  *
  * Every call answers with a number: 0 (FADURINKO_YES), or the number of no (the enum below). What
  * else the answer holds goes through its last pointers, and these are always written:

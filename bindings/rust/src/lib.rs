@@ -30,7 +30,7 @@
 //! that the variable `FADURINKO_LIB` names. This crate needs no other.
 //!
 //! Each no is a [`Refusal`] with a number and a place; its `Display` says what to do. A call takes at
-//! most about 170 kilobytes of stack (a comparison, as measured), finding by an [`OpenTable`] 15.
+//! most about 235 kilobytes of stack (a word by a text, as measured), finding by an [`OpenTable`] 15.
 
 #![deny(missing_docs)]
 #![deny(unsafe_code)]
