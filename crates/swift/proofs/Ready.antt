@@ -1,10 +1,9 @@
 -- The answer for a tree that was counted: 12, or the room that is filled with the words of the initial rule and the tree's word between them. Assumes nothing.
-use mathlib.Core.Path.{_≡_, sym, ap, subst, subst⁻¹, _∙_}
+use mathlib.Core.Path.{_≡_, sym, subst, subst⁻¹, _∙_}
 use mathlib.Core.List.{List, [], _++_, append-nil}
-use Prim.Native.Nat.{ℕ, _+_, _-_, _<_, _≤_}
+use Prim.Native.Nat.{ℕ, _+_, _<_, _≤_}
 use native.Mathlib.Omega.{arith}
-use borrow.Rule.Slice.PartMut.{putMid}
-use lib.ListN.{length, take, drop, length-take, length-drop}
+use lib.ListN.{length, take, drop}
 use Rattle.words.specs.Word.{Word, spaces}
 use Rattle.words.specs.Reply.{Reply, given}
 use Rattle.machine.specs.Machine.{Tree, Table}
@@ -18,13 +17,13 @@ use Rattle.layout.specs.declared.Head.{Head}
 use Rattle.tally.specs.declared.Tally.{Tally}
 use Rattle.tally.specs.declared.Tally.the-variants as tally
 use Rattle.tally.specs.Tallied.{Counted, Tallied}
-use Rattle.pen.specs.Penned.{Due, Penned, Tidy}
+use Rattle.pen.specs.Penned.{Due}
 use Rattle.finder.specs.declared.Found.{Found}
 use Rattle.finder.specs.declared.Found.the-variants as found
 use Rattle.finder.specs.Answer.{Answers}
 use Rattle.finder.proofs.Between.{Between, between-short, between-filled}
 use Rattle.finder.proofs.Read.{into-word}
-use Rattle.swift.proofs.Filled.{front-is, three-filled}
+use Rattle.swift.proofs.Filled.{three-filled}
 
 -- u and v are the words of the initial rule, and the tree that the bytes S are was counted.
 pub record Ready (F I S P : List ℕ) (head : Head) (letters gaps : ℕ) (u v : Word) (M : Table) : Type 0 where
@@ -69,8 +68,8 @@ module _ {F I S P : List ℕ} {head : Head} {letters gaps : ℕ} {u v : Word} {M
   ready-short R h e = ready-answer R R (between-short ready-between R h e)
 
   -- Writing by the plan is due.
-  ready-due : (room : ℕ) → letters ≤ room → Due F P 0 64 room M (M .start) (b .counted .tree) (b .counted .letters-of)
-  ready-due room h =
+  ready-due : Due F P 0 64 letters M (M .start) (b .counted .tree) (b .counted .letters-of)
+  ready-due =
       let k = b .counted in
       let s : length (preorder (k .tree)) ≤ 32768 = rw (k .bytes) at (k .size) in
       record {
@@ -82,28 +81,22 @@ module _ {F I S P : List ℕ} {head : Head} {letters gaps : ℕ} {u v : Word} {M
         fits = omega (arith, k .many);
       }
 
-  -- In a room that is long enough, u is put at its front, the tree's word written to the part behind it that has its length, and v put behind that.
-  pub ready-fits : {r : Found} {s : ℕ} (R R₁ R₂ ys : List ℕ) (from gu gv : ℕ) → length u + letters + length v ≤ length R → length R₁ ≡ length R
+  -- In a room that is long enough, u is put at its front, the tree's word behind it, and v behind that.
+  pub ready-fits : {r : Found} (R R₁ R₂ R₃ : List ℕ) (from gu gv : ℕ) → length u + letters + length v ≤ length R
       → R₁ ≡ take 0 R ++ u ++ drop (0 + length u) R → from ≡ 0 + length u
-      → ((M : Table) (q : ℕ) (t : Tree) (w : Word) → Due F P 0 64 (length (take (from + letters - from) (drop from R₁))) M q t w → Penned w 0 (length (preorder t)) ys s)
-      → Tidy (take (from + letters - from) (drop from R₁)) ys s
-      → (let B = putMid from (from + letters - from) R₁ ys in R₂ ≡ take (from + letters) B ++ v ++ drop (from + letters + length v) B)
+      → ((M : Table) (q : ℕ) (t : Tree) (w : Word) → Due F P 0 64 letters M q t w → letters ≡ length w → R₂ ≡ take from R₁ ++ w ++ drop (from + letters) R₁)
+      → R₃ ≡ take (from + letters) R₂ ++ v ++ drop (from + letters + length v) R₂
       → gu ≡ spaces u → gv ≡ spaces v → r ≡ found.Word (record { length = length u + letters + length v; terms = gu + gaps + gv + 1 })
-      → Answers (wordInto M S (length R)) R R₂ r
-  ready-fits R R₁ R₂ ys from gu gv h k e₁ ef wrote tidy e₂ eu ev er =
-      let w : Word = b .counted .letters-of in
-      let n : ℕ = from + letters - from in
-      let l : length (take n (drop from R₁)) ≡ letters = simp (length-take, length-drop) (omega arith) in
-      let m : n ≡ length w = omega (arith, b .counted .many) in
-      let p = wrote M (M .start) (b .counted .tree) w (ready-due (length (take n (drop from R₁))) (omega arith)) .front in
-      let y : ys ≡ w = front-is ys w (omega (arith, tidy .long, b .counted .many)) p in
-      let B : List ℕ = putMid from n R₁ ys in
-      let z : R₂ ≡ take (from + length w) B ++ v ++ drop (from + length w + length v) B =
-      subst (λ (x : ℕ). R₂ ≡ take (from + x) B ++ v ++ drop (from + x + length v) B) (b .counted .many) e₂ in
-      ready-answer R R₂
-      (between-filled ready-between R R₂ gu gv h eu ev er
-      (three-filled R R₁ B R₂ u w v from n e₁ ef m
-      (ap (λ (x : List ℕ). take from R₁ ++ (x ++ drop n (drop from R₁))) y) z))
+      → Answers (wordInto M S (length R)) R R₃ r
+  ready-fits R R₁ R₂ R₃ from gu gv h e₁ ef wrote e₃ eu ev er =
+      let k = b .counted in
+      let w : Word = k .letters-of in
+      let y = wrote M (M .start) (k .tree) w ready-due (k .many) in
+      ready-answer R R₃
+      (between-filled ready-between R R₃ gu gv h eu ev er
+      (three-filled R R₁ R₂ R₃ u w v from e₁ ef
+      (subst (λ (x : ℕ). R₂ ≡ take from R₁ ++ w ++ drop (from + x) R₁) (k .many) y)
+      (subst (λ (x : ℕ). R₃ ≡ take (from + x) R₂ ++ v ++ drop (from + x + length v) R₂) (k .many) e₃)))
 
 -- What a tally that counted says, from the initial state on.
 pub tally-counted : {F S P : List ℕ} {M : Table} {head : Head} {r : Tally} (letters gaps : ℕ) → Tallied F S P M (head .start) r → r ≡ tally.Counted letters gaps

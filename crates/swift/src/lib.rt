@@ -6,15 +6,62 @@ use layout::Head;
 use layout::Refusal;
 use tally::Tally;
 ghost use mathlib.Core.Path.{_≡_};
-ghost use mathlib.Core.List.{List};
-ghost use Prim.Native.Nat.{ℕ, _≤_};
-ghost use lib.ListN.{length};
-ghost use Rattle.machine.specs.Machine.{Table};
+ghost use mathlib.Core.List.{List, _++_};
+ghost use Prim.Native.Nat.{ℕ, _+_, _≤_};
+ghost use lib.ListN.{length, take, drop};
+ghost use Rattle.words.specs.Word.{Word};
+ghost use Rattle.machine.specs.Machine.{Tree, Table};
 ghost use Rattle.layout.specs.Layout.{Opened};
 ghost use Rattle.layout.specs.Leaves.{headOf};
 ghost use Rattle.promises.specs.Word.{wordInto};
 ghost use Rattle.finder.specs.Answer.{Answers};
 ghost use Rattle.tally.specs.Tallied.{Counted};
+ghost use Rattle.pen.specs.Penned.{Due};
+
+// The 32 bytes of the room from `at` on.
+fn saved(room: &[u8], at: usize) -> [u8; 32]
+    requires { ⌜ at + 32 ≤ length (now room) ⌝ }
+    ensures { λ r. ⌜ r ≡ take 32 (drop at (now (room .entry))) ⌝ }
+{
+    let mut piece = [0u8; 32];
+    let mut i = 0;
+    while i < 32 {
+        piece[i] = room[at + i];
+        i += 1;
+    }
+    piece
+}
+
+// Stores 32 bytes in the room from `at` on.
+fn store(piece: [u8; 32], room: &mut [u8], at: usize)
+    requires { ⌜ at + 32 ≤ length (now room) ⌝ }
+    ensures { λ _. ⌜ now (room .exit) ≡ take at (now (room .entry)) ++ piece ++ drop (at + 32) (now (room .entry)) ⌝ }
+{
+    let mut i = 0;
+    while i < 32 {
+        room[at + i] = piece[i];
+        i += 1;
+    }
+}
+
+// Writes the word of a planned tree, of so many letters, into the room from `from` on. Where the
+// room has 32 bytes behind the word they are lent too, so that its last letters are copied at once,
+// and put back afterwards.
+fn put_tree(frames: &[u8; 16448], plan: &[u32; 32768], letters: usize, room: &mut [u8], from: usize)
+    requires { ⌜ (letters ≤ 8388608) × (from + letters ≤ length (now room)) ⌝ }
+    ensures { λ _. ⌜ ((M : Table) (q : ℕ) (t : Tree) (w : Word) → Due (now (frames .entry)) (now (plan .entry)) 0 64 letters M q t w → letters ≡ length w
+        → now (room .exit) ≡ take from (now (room .entry)) ++ w ++ drop (from + letters) (now (room .entry))) ⌝ }
+{
+    let end = from + letters;
+    if room.len() - end < 32 {
+        pen::eval(64, plan, frames, 0, &mut room[from..end]);
+        return;
+    }
+    let behind = saved(room, end);
+    let spare = end + 32;
+    pen::eval(64, plan, frames, 0, &mut room[from..spare]);
+    store(behind, room, end);
+}
 
 // Writes the word of a tree that was counted, between the words of the initial rule: 12 with the
 // length needed where the room is too short.
@@ -43,8 +90,8 @@ fn write(
     }
     let spaces = fields::gaps_of(before) + gaps + fields::gaps_of(after);
     let from = walk::put(before, room, 0);
+    put_tree(frames, plan, letters, room, from);
     let end = from + letters;
-    pen::eval(64, plan, frames, 0, &mut room[from..end]);
     walk::put(after, room, end);
     let terms = spaces + 1;
     Found::Word(Letters { length, terms })

@@ -42,20 +42,11 @@ add-spaces-2 c = search needs
 put-requires : tie.Need-put-requires
 put-requires c κs = search needs
 
+put-tree-requires : tie.Need-put-tree-requires
+put-tree-requires c κs = search needs
+
 add-end : tie.Need-add-end
 add-end c = search needs
-
-sub-eval : tie.Need-sub-eval
-sub-eval c = search needs
-
-part-eval-start : tie.Need-part-eval-start
-part-eval-start c = search needs
-
-part-eval-end : tie.Need-part-eval-end
-part-eval-end c = search needs
-
-eval-requires : tie.Need-eval-requires
-eval-requires c κs = search needs
 
 put-requires-2 : tie.Need-put-requires-2
 put-requires-2 c κs = search needs
@@ -77,17 +68,15 @@ returns-2 c =
     (record { opened = o; is = e; counted = k; first = words .before .stretch .ensures .0; last = words .stretch2 .ensures .0 })
     (words .before .before .before .before .args .room .now)
     (begun .put .last .1 .0)
+    (written .put-tree .last .1 .1 .1 .0)
     (c .before .before .put2 .last .1 .0)
-    (written .eval .last .1 .1 .1 .1 .0)
     (begun .put .result)
     (counted .before .gaps-of .result)
     (counted .gaps-of2 .result)
     (counted .before .before .if1 .left)
-    (begun .put .kept .1 .0)
     (begun .put .ensures .1)
     (begun .put .ensures .0)
-    (written .eval .ensures .0)
-    (written .eval .ensures .1)
+    (written .put-tree .ensures)
     (c .before .before .put2 .ensures .1)
     (counted .before .gaps-of .ensures .0)
     (counted .gaps-of2 .ensures .0)
@@ -107,11 +96,8 @@ write-spec =
     gaps-of-requires-2
     add-spaces-2
     put-requires
+    put-tree-requires
     add-end
-    sub-eval
-    part-eval-start
-    part-eval-end
-    eval-requires
     put-requires-2
     add-terms
     same-length

@@ -1,0 +1,76 @@
+-- `store` writes 32 bytes: after i bytes the room is the one at entry with the first i of them pasted over it. Assumes nothing.
+use mathlib.Core.Path.{_≡_, refl, sym, ap, _∙_}
+use mathlib.Core.List.{List, _++_}
+use Prim.Native.Nat.{ℕ, _+_, _-_, _≤_}
+use native.Mathlib.Numerals.{add-one}
+use native.Mathlib.Omega.{arith}
+use borrow.Author.Needs.{needs}
+use lib.ListN.{length, take, drop, set, getD, length-set}
+use lib.Seq.{paste, paste-zero, paste-suc, take-all}
+use Rattle.swift.proofs.store.Statement.{statement}
+use Rattle.swift.proofs.store.Tie as tie
+
+abbrev Inv-loop : tie.InvT-loop
+Inv-loop room₀ at piece i₀ room i = (i ≤ 32) × (room ≡ paste room₀ at piece i) × (length room ≡ length room₀)
+
+abbrev μ-loop : tie.MeasureT-loop
+μ-loop room₀ at piece i₀ room i = 32 - i
+
+loop-holds : tie.Need-loop-holds Inv-loop μ-loop
+loop-holds c = (search needs, paste-zero (c .args .room .now) (c .args .at) (c .args .t1), refl)
+
+array-read-room : tie.Need-array-read-room Inv-loop μ-loop
+array-read-room c = search needs
+
+add-room : tie.Need-add-room Inv-loop μ-loop
+add-room c = search needs
+
+slice-write-room : tie.Need-slice-write-room Inv-loop μ-loop
+slice-write-room c = search needs
+
+add-i : tie.Need-add-i Inv-loop μ-loop
+add-i c = search needs
+
+loop-less : tie.Need-loop-less Inv-loop μ-loop
+loop-less c = search needs
+
+loop-again : tie.Need-loop-again Inv-loop μ-loop
+loop-again c =
+    let l = c .before .loop in
+    let a = c .before .before .args in
+    let k : length (a .t1) ≡ 32 = omega arith in (
+      search needs,
+      ap (λ (x : List ℕ). set x (a .at + l .i) (getD (a .t1) (l .i) 0)) (l .inv .1)
+          ∙ paste-suc (a .room .now) (a .at) (a .t1) (l .i) 0 (omega arith) (omega arith)
+          ∙ ap (λ (k : ℕ). paste (a .room .now) (a .at) (a .t1) k) (sym (add-one (l .i))),
+      simp length-set (l .inv .2),
+    )
+
+same-length : tie.Need-same-length Inv-loop μ-loop
+same-length c = search needs
+
+returns : tie.Need-returns Inv-loop μ-loop
+returns c =
+    let l = c .before .loop in
+    let a = c .before .before .args in
+    let k : length (a .t1) ≡ 32 = omega arith in
+    let e : l .i ≡ 32 = omega arith in
+    l .inv .1
+    ∙ ap (λ (k : ℕ). paste (a .room .now) (a .at) (a .t1) k) e
+    ∙ ap (λ (x : List ℕ). take (a .at) (a .room .now) ++ x ++ drop (a .at + 32) (a .room .now)) (take-all 32 (a .t1) (omega arith))
+
+pub store-spec : {M : Type 1} → statement M
+store-spec =
+    tie.close
+    (tie.spec
+    Inv-loop
+    μ-loop
+    loop-holds
+    array-read-room
+    add-room
+    slice-write-room
+    add-i
+    loop-less
+    loop-again
+    same-length
+    returns)
