@@ -12,10 +12,11 @@ use Rattle.machine.specs.Machine.{Row}
 use Rattle.ends.specs.Companion.{on, marked, markAll, follow, spread}
 use Rattle.ends.proofs.Marks.{marked-le, spread-raised}
 use Rattle.verdict.specs.Codes.{flags}
-use Rattle.verdict.specs.Reading.{pastAt, childrenAt, rowAt, rowEnd, rowsAt}
+use Rattle.verdict.specs.Reading.{pastAt, childrenAt}
 use Rattle.verdict.specs.Steps.{Marked}
+use Rattle.verdict.proofs.Rounds.{Still}
 use Rattle.verdict.proofs.Walks.{children-more, children-none}
-use Rattle.verdict.proofs.Steps.{map-set, rows-more, rows-none}
+use Rattle.verdict.proofs.Steps.{map-set}
 
 -- ---- one state
 -- The mark of a state, in the list of marks.
@@ -69,17 +70,7 @@ module _ (F : List ℕ) where
   unfolding markAll
   mark-none p n e ms = ap (λ cs. markAll cs ms) (children-none F p n e)
 
-  -- ---- rows
-  -- Going over some rows is following the first and then going over the others.
-  pub spread-more : (p n : ℕ) → 0 < n → (ms : List Bool) → spread (rowsAt F p n) ms ≡ spread (rowsAt F (rowEnd F p) (n - 1)) (follow (rowAt F p) ms)
-  unfolding spread
-  spread-more p n h ms = ap (λ rows. spread rows ms) (rows-more F p n h)
-
-  -- Going over no rows.
-  pub spread-none : (p n : ℕ) → n ≡ 0 → (ms : List Bool) → spread (rowsAt F p n) ms ≡ ms
-  unfolding spread
-  spread-none p n e ms = ap (λ rows. spread rows ms) (rows-none F p n e)
-
+-- ---- a row
 module _ (row : Row) (m : List ℕ) where
   -- A row whose state is not marked.
   pub follow-not : (getD m (row .state) 0 ≡ 1 → ⊥) → Marked m m 0 (follow row (flags m))
@@ -98,6 +89,7 @@ module _ (row : Row) (m : List ℕ) where
       subst (λ x. Marked m n k x) (sym (ap (λ t. elim t as (λ x. List Bool) [ true ↦ markAll (row .rule .rest) (flags m) | false ↦ flags m ]) (flag-at m (row .state) ∙ eq-eqb (getD m (row .state) 0) 1 e))) h
 
 -- ---- no state more
--- Going over the rows changes nothing if it marks no state more.
-pub spread-still : (rows : List Row) (ms : List Bool) → marked (spread rows ms) ≡ marked ms → spread rows ms ≡ ms
-spread-still rows ms e = spread-raised rows ms .rests e
+-- A row that marks no state more changes nothing.
+pub follow-still : Still marked follow
+unfolding spread
+follow-still row ms e = spread-raised (row ∷ []) ms .rests e

@@ -2,10 +2,11 @@
 use mathlib.Core.Path.{_≡_, sym, ap, _∙_, subst}
 use mathlib.Core.Bool.{true}
 use mathlib.Core.List.{List}
-use Prim.Native.Nat.{ℕ}
+use mathlib.Core.Option.{some}
+use Prim.Native.Nat.{ℕ, _≤_, _<_}
 use native.Mathlib.Decide.{decLt}
 use native.Mathlib.Omega.{arith}
-use lib.ListN.{length, set, replicate, length-replicate, getD-replicate, List·getD-eq-default}
+use lib.ListN.{length, set, replicate, length-replicate, getD-replicate, List·getD-eq-default, getElem?}
 use Rattle.words.specs.Word.{Word}
 use Rattle.machine.specs.Machine.{Row, Table}
 use Rattle.machine.specs.Verdict.{Verdict, Judged}
@@ -16,7 +17,7 @@ use Rattle.layout.specs.Leaves.{wordAt, headOf}
 use Rattle.layout.specs.declared.Head.{Head}
 use Rattle.layout.proofs.Heads.{after-word}
 use Rattle.verdict.specs.Codes.{flags}
-use Rattle.verdict.specs.Reading.{near, rowsAt, tableAt}
+use Rattle.verdict.specs.Reading.{near, rowsAt, rowOf, Placed, tableAt}
 use Rattle.verdict.specs.Steps.{Marked, Swept, Spread}
 use Rattle.verdict.specs.Judgement.{allChecks}
 use Rattle.verdict.proofs.Read.{opened-rows}
@@ -35,36 +36,44 @@ begun-long = length-replicate {A = ℕ} 64 0
 begun-zeros : Zeros begun
 begun-zeros q = elim (decLt q 64) [ yes l ↦ getD-replicate {A = ℕ} 64 q 0 0 l | no l ↦ List·getD-eq-default begun 0 {n = q} (omega (arith, begun-long)) ]
 
--- What the code has in the end: the marks n, the summaries xs at the left and ys at the right, and the verdict v by the checks.
-pub record Done (F : List ℕ) (h : Head) (p : ℕ) (m n xs ys : List ℕ) (k : ℕ) (v : Verdict) : Type 0 where
+-- What the code has in the end: the places ps of r rows, the marks n, the summaries xs at the left and ys at the right, and the verdict v by the checks.
+pub record Done (F : List ℕ) (h : Head) (p r : ℕ) (ps m n xs ys : List ℕ) (k : ℕ) (v : Verdict) : Type 0 where
   pub place : p ≡ near (h .rows)
+  pub count : h .rules ≤ 512 → r ≡ h .rules
+  pub placed : Placed F p r ps
   pub first : Marked begun m k (set (flags begun) (h .start) true)
-  pub marks : Spread (rowsAt F p (h .rules)) m n
-  pub lefts : Swept left (rowsAt F p (h .rules)) begun xs
-  pub rights : Swept right (rowsAt F p (h .rules)) begun ys
+  pub marks : Spread F ps r m n
+  pub lefts : Swept left F ps r begun xs
+  pub rights : Swept right F ps r begun ys
   pub verdict : v ≡ judgeBy (allChecks (tableAt F h) n xs ys)
 
-module _ {F I : List ℕ} {M : Table} {p : ℕ} {m n xs ys : List ℕ} {k : ℕ} {v : Verdict} (o : Opened F I M) (d : Done F (headOf M) p m n xs ys k v) where
-  -- The rows that the code goes over are the table's.
-  rows-same : rowsAt F p (length (M .rows)) ≡ M .rows
-  rows-same = ap (λ x. rowsAt F x (length (M .rows))) (d .place) ∙ opened-rows o
+module _ {F I : List ℕ} {M : Table} {p r : ℕ} {ps m n xs ys : List ℕ} {k : ℕ} {v : Verdict} (o : Opened F I M) (d : Done F (headOf M) p r ps m n xs ys k v) where
+  -- All rows have places.
+  all-placed : r ≡ length (M .rows)
+  all-placed = d .count (o .limited .rows)
+
+  -- These are the places of the table's rows.
+  rows-placed : (i : ℕ) → i < length (M .rows) → getElem? (M .rows) i ≡ some (rowOf F ps i)
+  rows-placed i l =
+      let same : rowsAt F p r ≡ M .rows = ap (λ x. rowsAt F x r) (d .place) ∙ ap (rowsAt F (near (headOf M .rows))) all-placed ∙ opened-rows o in
+      ap (λ rs. getElem? rs i) (sym same) ∙ d .placed .row i (subst (λ x. i < x) (sym all-placed) l)
 
   -- What is known of the table in the end.
   known : Known M n xs ys
   known =
       let W = o .limited .made in
       let few = o .limited .states in
-      let s = subst (λ rows. Spread rows m n) rows-same (d .marks) in
-      let l = subst (λ rows. Swept left rows begun xs) rows-same (d .lefts) in
-      let r = subst (λ rows. Swept right rows begun ys) rows-same (d .rights) in
+      let s = subst (λ x. Spread F ps x m n) all-placed (d .marks) in
+      let ls = subst (λ x. Swept left F ps x begun xs) all-placed (d .lefts) in
+      let rs = subst (λ x. Swept right F ps x begun ys) all-placed (d .rights) in
       record {
         made = W;
-        marked = spread-reached M W few begun m n k begun-long begun-zeros (d .first) s;
-        reached = reached-spread M W few begun m n k begun-long begun-zeros (d .first) s;
-        shown = swept-witnessed M W few left begun xs begun-long begun-zeros l;
-        fits = swept-covering M W few left begun xs begun-long begun-zeros l;
-        shown-right = swept-witnessed M W few right begun ys begun-long begun-zeros r;
-        fits-right = swept-covering M W few right begun ys begun-long begun-zeros r;
+        marked = spread-reached M W few F ps rows-placed begun m n k begun-long begun-zeros (d .first) s;
+        reached = reached-spread M W few F ps rows-placed begun m n k begun-long begun-zeros (d .first) s;
+        shown = swept-witnessed M W few F ps rows-placed left begun xs begun-long begun-zeros ls;
+        fits = swept-covering M W few F ps rows-placed left begun xs begun-long begun-zeros ls;
+        shown-right = swept-witnessed M W few F ps rows-placed right begun ys begun-long begun-zeros rs;
+        fits-right = swept-covering M W few F ps rows-placed right begun ys begun-long begun-zeros rs;
       }
 
   -- What a table is judged by, with the rows and the last word that are given.
@@ -80,5 +89,5 @@ module _ {F I : List ℕ} {M : Table} {p : ℕ} {m n xs ys : List ℕ} {k : ℕ}
   opened-verdict = subst (Judged M) (sym (d .verdict ∙ read-same)) (checks-judged M n xs ys known)
 
 -- What the code has in the end is the verdict of every table that is opened in the bytes and has the head.
-pub done-judged : {F : List ℕ} {h : Head} {p : ℕ} {m n xs ys : List ℕ} {k : ℕ} {v : Verdict} → Done F h p m n xs ys k v → (I : List ℕ) (M : Table) → Opened F I M → h ≡ headOf M → Judged M v
-done-judged {F} {h} {p} {m} {n} {xs} {ys} {k} {v} d I M o e = opened-verdict o (subst (λ x. Done F x p m n xs ys k v) e d)
+pub done-judged : {F : List ℕ} {h : Head} {p r : ℕ} {ps m n xs ys : List ℕ} {k : ℕ} {v : Verdict} → Done F h p r ps m n xs ys k v → (I : List ℕ) (M : Table) → Opened F I M → h ≡ headOf M → Judged M v
+done-judged {F} {h} {p} {r} {ps} {m} {n} {xs} {ys} {k} {v} d I M o e = opened-verdict o (subst (λ x. Done F x p r ps m n xs ys k v) e d)

@@ -1,5 +1,5 @@
--- Sweeps over the rows: what one row adds, and all rows in turn.
-use mathlib.Core.Path.{_≡_, refl, sym, ap, _∙_, subst}
+-- Summaries: what one row adds.
+use mathlib.Core.Path.{_≡_, refl, sym, ap, _∙_}
 use mathlib.Core.Bool.{Bool, true, false, _&&_, _||_}
 use mathlib.Core.List.{List, [], _∷_, map}
 use Prim.Native.Nat.{ℕ, zero, suc, _+_, _-_, _≤_, _<_}
@@ -16,6 +16,7 @@ use Rattle.verdict.specs.Codes.{decode, K, summaries}
 use Rattle.verdict.specs.Reading.{rowAt, rowEnd, rowsAt}
 use Rattle.verdict.specs.Steps.{Risen}
 use Rattle.verdict.proofs.Codes.{nothing-known}
+use Rattle.verdict.proofs.Rounds.{Still}
 
 -- A list in which one element is replaced, seen through a function.
 pub map-set : {A B : Type 0} (f : A → B) (l : List A) (i : ℕ) (a : A) → map f (set l i a) ≡ set (map f l) i (f a)
@@ -100,35 +101,15 @@ module _ (side : Side) (row : Row) (xs : List ℕ) where
       rises : ranks (summaries (set xs q n)) ≡ ranks (summaries xs) + (b - a)
       rises = omega (arith, ap ranks there, ranks-set (summaries xs) q (decode n) (rw (length-map xs decode) l), ap rank old, ea, eb, up)
 
--- ---- all rows
-module _ (F : List ℕ) (p : ℕ) where
-  -- The first of some rows.
-  pub rows-more : (n : ℕ) → 0 < n → rowsAt F p n ≡ rowAt F p ∷ rowsAt F (rowEnd F p) (n - 1)
-  unfolding rowsAt
-  rows-more zero h = absurd (omega arith)
-  rows-more (suc n) h = ap (λ k. rowAt F p ∷ rowsAt F (rowEnd F p) k) (sym (sub-one (suc n)))
+-- ---- some rows
+-- The first of some rows.
+pub rows-more : (F : List ℕ) (p n : ℕ) → 0 < n → rowsAt F p n ≡ rowAt F p ∷ rowsAt F (rowEnd F p) (n - 1)
+unfolding rowsAt
+rows-more F p zero h = absurd (omega arith)
+rows-more F p (suc n) h = ap (λ k. rowAt F p ∷ rowsAt F (rowEnd F p) k) (sym (sub-one (suc n)))
 
-  -- No rows.
-  pub rows-none : (n : ℕ) → n ≡ 0 → rowsAt F p n ≡ []
-  unfolding rowsAt
-  rows-none n e = ap (rowsAt F p) e
-
-module _ (F : List ℕ) (side : Side) where
-  -- A sweep over some rows is a sweep over the others after the first.
-  pub sweep-more : (p n : ℕ) → 0 < n → (vs : List Ends) → sweep side (rowsAt F p n) vs ≡ sweep side (rowsAt F (rowEnd F p) (n - 1)) (visit side (rowAt F p) vs)
-  unfolding sweep
-  sweep-more p n h vs = ap (λ rows. sweep side rows vs) (rows-more F p n h)
-
-  -- A sweep over no rows.
-  pub sweep-none : (p n : ℕ) → n ≡ 0 → (vs : List Ends) → sweep side (rowsAt F p n) vs ≡ vs
-  unfolding sweep
-  sweep-none p n e vs = ap (λ rows. sweep side rows vs) (rows-none F p n e)
-
--- ---- all rows until nothing is added
--- A sweep after which no more is known changes nothing.
-pub sweep-still : (side : Side) (rows : List Row) (vs : List Ends) → ranks (sweep side rows vs) ≡ ranks vs → sweep side rows vs ≡ vs
+-- ---- no more known
+-- A row after which no more is known changes nothing.
+pub visit-still : (side : Side) → Still ranks (visit side)
 unfolding sweep
-sweep-still side [] vs e = refl
-sweep-still side (row ∷ rows) vs e =
-    let s : visit side row vs ≡ vs = sweep-rests side (row ∷ rows) vs e zero row refl in
-    ap (sweep side rows) s ∙ sweep-still side rows vs (subst (λ x. ranks (sweep side rows x) ≡ ranks vs) s e)
+visit-still side row vs e = sweep-rests side (row ∷ []) vs e zero row refl

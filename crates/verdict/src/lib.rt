@@ -14,6 +14,8 @@ use crate::check::Fault;
 use crate::check::least_row;
 use crate::check::least_state;
 use crate::check::start_fault;
+use crate::places::counted;
+use crate::places::find_places;
 use crate::reach::mark_all;
 use crate::reach::mark_at;
 use crate::row::clamped;
@@ -22,6 +24,7 @@ use layout::Head;
 use layout::Refusal;
 
 mod check;
+mod places;
 mod reach;
 mod row;
 mod summary;
@@ -71,13 +74,15 @@ fn first_fault(frames: &[u8], head: Head, marks: &[u8], left: &[u16], right: &[u
 pub fn judge_opened(frames: &[u8], head: Head) -> Judgement
     ensures { λ r. ⌜ ((I : List ℕ) (M : Table) → Opened (now (frames .entry)) I M → head ≡ headOf M → Judged M (verdictOf r)) ⌝ }
 {
-    let rows = clamped(head.rows);
+    let rules = counted(head.rules);
+    let mut places = [0u16; 512];
+    find_places(frames, clamped(head.rows), rules, &mut places);
     let mut marks = [0u8; 64];
     mark_at(&mut marks, head.start);
-    mark_all(frames, rows, head.rules, &mut marks);
+    mark_all(frames, &places, rules, &mut marks);
     let mut left = [0u16; 64];
-    add_all(frames, rows, head.rules, 0, &mut left);
+    add_all(frames, &places, rules, 0, &mut left);
     let mut right = [0u16; 64];
-    add_all(frames, rows, head.rules, 1, &mut right);
+    add_all(frames, &places, rules, 1, &mut right);
     first_fault(frames, head, &marks, &left, &right)
 }

@@ -3,21 +3,16 @@ ghost use mathlib.Core.Path.{_≡_};
 ghost use mathlib.Core.Bool.{true};
 ghost use Prim.Native.Nat.{_≤_};
 ghost use lib.ListN.{length, set};
-ghost use Rattle.ends.specs.Companion.{markAll, follow, spread};
+ghost use Rattle.ends.specs.Companion.{markAll, follow};
 ghost use Rattle.verdict.specs.Codes.{flags};
-ghost use Rattle.verdict.specs.Reading.{rowAt, rowsAt};
-ghost use Rattle.verdict.specs.Steps.{Marked, Along, Spread};
+ghost use Rattle.verdict.specs.Reading.{rowAt};
+ghost use Rattle.verdict.specs.Steps.{Marked, Followed, Spread};
+use crate::places::place_at;
+use crate::places::turned;
 use crate::row::kids_at;
 use crate::row::past;
-use crate::row::past_row;
 use layout::byte;
 use layout::wide;
-
-// What going along a row comes to: how many states it marked, and where what follows the row stands.
-pub struct Walk {
-    pub count: usize,
-    pub next: usize,
-}
 
 // Marks a state, and says how many states that marked: 0 or 1.
 pub fn mark_at(marks: &mut [u8], q: usize) -> usize
@@ -33,10 +28,10 @@ pub fn mark_at(marks: &mut [u8], q: usize) -> usize
     1
 }
 
-// Marks the children of the row at `at`.
-fn mark_rest(frames: &[u8], at: usize, marks: &mut [u8]) -> Walk
+// Marks the children of the row at `at`, and says how many states that marked.
+fn mark_rest(frames: &[u8], at: usize, marks: &mut [u8]) -> usize
     requires { ⌜ (at ≤ 32768) × (length (now marks) ≡ 64) ⌝ }
-    ensures { λ r. ⌜ Along (now (frames .entry)) at (now (marks .entry)) (now (marks .exit)) r (markAll (rowAt (now (frames .entry)) at .rule .rest) (flags (now (marks .entry)))) ⌝ }
+    ensures { λ r. ⌜ Marked (now (marks .entry)) (now (marks .exit)) r (markAll (rowAt (now (frames .entry)) at .rule .rest) (flags (now (marks .entry)))) ⌝ }
 {
     let mut kids = kids_at(frames, at);
     let mut p = past(frames, at + 3);
@@ -47,50 +42,47 @@ fn mark_rest(frames: &[u8], at: usize, marks: &mut [u8]) -> Walk
         p = past(frames, p + 1);
         kids -= 1;
     }
-    Walk { count: k, next: p }
+    k
 }
 
 // Marks the children of the row at `at` if its state is marked.
-fn mark_row(frames: &[u8], at: usize, marks: &mut [u8]) -> Walk
+fn mark_row(frames: &[u8], at: usize, marks: &mut [u8]) -> usize
     requires { ⌜ (at ≤ 32768) × (length (now marks) ≡ 64) ⌝ }
-    ensures { λ r. ⌜ Along (now (frames .entry)) at (now (marks .entry)) (now (marks .exit)) r (follow (rowAt (now (frames .entry)) at) (flags (now (marks .entry)))) ⌝ }
+    ensures { λ r. ⌜ Marked (now (marks .entry)) (now (marks .exit)) r (follow (rowAt (now (frames .entry)) at) (flags (now (marks .entry)))) ⌝ }
 {
     let q = wide(byte(frames, at + 1));
     if byte(marks, q) != 1 {
-        return Walk {
-            count: 0,
-            next: past_row(frames, at),
-        };
+        return 0;
     }
     mark_rest(frames, at, marks)
 }
 
-// Goes over all rows in turn.
-fn mark_rows(frames: &[u8], rows: usize, rules: usize, marks: &mut [u8]) -> usize
-    requires { ⌜ (rows ≤ 32768) × (length (now marks) ≡ 64) ⌝ }
-    ensures { λ r. ⌜ Marked (now (marks .entry)) (now (marks .exit)) r (spread (rowsAt (now (frames .entry)) rows rules) (flags (now (marks .entry)))) ⌝ }
+// Goes over all rows in turn, from the last one on if `down`.
+fn mark_rows(frames: &[u8], places: &[u16], rules: usize, down: bool, marks: &mut [u8]) -> usize
+    requires { ⌜ length (now marks) ≡ 64 ⌝ }
+    ensures { λ r. ⌜ Followed (now (frames .entry)) (now (places .entry)) rules (now (marks .entry)) (now (marks .exit)) r ⌝ }
 {
-    let mut left = rules;
-    let mut p = rows;
+    let mut j: usize = 0;
     let mut k: usize = 0;
-    while 0 < left {
-        let walk = mark_row(frames, p, marks);
-        k += walk.count;
-        p = walk.next;
-        left -= 1;
+    while j < rules {
+        let at = place_at(places, turned(down, rules, j));
+        k += mark_row(frames, at, marks);
+        j += 1;
     }
     k
 }
 
-// Goes over all rows again and again, until that marks no state more.
-pub fn mark_all(frames: &[u8], rows: usize, rules: usize, marks: &mut [u8])
-    requires { ⌜ (rows ≤ 32768) × (length (now marks) ≡ 64) ⌝ }
-    ensures { λ _. ⌜ Spread (rowsAt (now (frames .entry)) rows rules) (now (marks .entry)) (now (marks .exit)) ⌝ }
+// Goes over all rows again and again, up and down by turns, until that marks no state more.
+pub fn mark_all(frames: &[u8], places: &[u16], rules: usize, marks: &mut [u8])
+    requires { ⌜ length (now marks) ≡ 64 ⌝ }
+    ensures { λ _. ⌜ Spread (now (frames .entry)) (now (places .entry)) rules (now (marks .entry)) (now (marks .exit)) ⌝ }
 {
+    let mut down = false;
     loop {
-        let k = mark_rows(frames, rows, rules, marks);
+        let k = mark_rows(frames, places, rules, down, marks);
         if k == 0 {
             break;
         }
+        down = !down;
     }
 }

@@ -4,13 +4,14 @@ ghost use mathlib.Core.Bool.{true};
 ghost use Prim.Native.Nat.{_≤_};
 ghost use lib.ListN.{length, getD};
 ghost use Rattle.ends.specs.Ends.{value};
-ghost use Rattle.ends.specs.Companion.{visit, sweep};
+ghost use Rattle.ends.specs.Companion.{visit};
 ghost use Rattle.verdict.specs.Codes.{sideOf, decode, K, withChild, summaries};
-ghost use Rattle.verdict.specs.Reading.{rowAt, rowsAt};
-ghost use Rattle.verdict.specs.Steps.{Risen, Swept, Sated};
+ghost use Rattle.verdict.specs.Reading.{rowAt};
+ghost use Rattle.verdict.specs.Steps.{Risen, Added, Swept, Sated};
+use crate::places::place_at;
+use crate::places::turned;
 use crate::row::kids_at;
 use crate::row::past;
-use crate::row::past_row;
 use crate::summary::alone_at;
 use crate::summary::joined;
 use crate::summary::next_to;
@@ -83,31 +84,39 @@ fn add_row(frames: &[u8], at: usize, side: u8, values: &mut [u16]) -> usize
     rank_of(new) - rank_of(old)
 }
 
-// Adds all rows in turn.
-fn add_rows(frames: &[u8], rows: usize, rules: usize, side: u8, values: &mut [u16]) -> usize
-    requires { ⌜ (rows ≤ 32768) × (length (now values) ≡ 64) ⌝ }
-    ensures { λ r. ⌜ Risen (now (values .entry)) (now (values .exit)) r (sweep (sideOf side) (rowsAt (now (frames .entry)) rows rules) (summaries (now (values .entry)))) ⌝ }
+// Adds all rows in turn, from the last one on if `down`, and says how much that added.
+fn add_rows(
+    frames: &[u8],
+    places: &[u16],
+    rules: usize,
+    down: bool,
+    side: u8,
+    values: &mut [u16],
+) -> usize
+    requires { ⌜ length (now values) ≡ 64 ⌝ }
+    ensures { λ r. ⌜ Added (sideOf side) (now (frames .entry)) (now (places .entry)) rules (now (values .entry)) (now (values .exit)) r ⌝ }
 {
-    let mut left = rules;
-    let mut p = rows;
+    let mut j: usize = 0;
     let mut k: usize = 0;
-    while 0 < left {
-        k += add_row(frames, p, side, values);
-        p = past_row(frames, p);
-        left -= 1;
+    while j < rules {
+        let at = place_at(places, turned(down, rules, j));
+        k += add_row(frames, at, side, values);
+        j += 1;
     }
     k
 }
 
-// Adds all rows again and again, until that adds nothing.
-pub fn add_all(frames: &[u8], rows: usize, rules: usize, side: u8, values: &mut [u16])
-    requires { ⌜ (rows ≤ 32768) × (length (now values) ≡ 64) ⌝ }
-    ensures { λ _. ⌜ Swept (sideOf side) (rowsAt (now (frames .entry)) rows rules) (now (values .entry)) (now (values .exit)) ⌝ }
+// Adds all rows again and again, down and up by turns, until that adds nothing.
+pub fn add_all(frames: &[u8], places: &[u16], rules: usize, side: u8, values: &mut [u16])
+    requires { ⌜ length (now values) ≡ 64 ⌝ }
+    ensures { λ _. ⌜ Swept (sideOf side) (now (frames .entry)) (now (places .entry)) rules (now (values .entry)) (now (values .exit)) ⌝ }
 {
+    let mut down = true;
     loop {
-        let k = add_rows(frames, rows, rules, side, values);
+        let k = add_rows(frames, places, rules, down, side, values);
         if k == 0 {
             break;
         }
+        down = !down;
     }
 }

@@ -1,21 +1,20 @@
 -- `mark_rest` meets its contract. Invariant: marking the children that are left makes of these marks what is wanted.
-use mathlib.Core.Path.{_≡_, refl, sym, ap, _∙_}
+use mathlib.Core.Path.{refl, sym, ap, _∙_}
 use mathlib.Core.Bool.{true}
-use Prim.Native.Nat.{_+_, _-_}
+use Prim.Native.Nat.{_+_, _-_, _≤_}
 use native.Mathlib.Omega.{arith}
 use lib.ListN.{getD, set}
 use Rattle.ends.specs.Companion.{marked, markAll}
 use Rattle.verdict.specs.Codes.{flags}
-use Rattle.verdict.specs.Reading.{pastAt, childrenAt, childrenEnd, rowAt, rowEnd}
+use Rattle.verdict.specs.Reading.{pastAt, childrenAt, rowAt}
 use Rattle.verdict.proofs.Rounds.{Going, going-more, going-done, going-most}
-use Rattle.verdict.proofs.Walks.{end-more, end-none}
 use Rattle.verdict.proofs.Marks.{marked-most, mark-more, mark-none}
 use borrow.Author.Needs.{needs}
 use Rattle.verdict.proofs.reach.mark_rest.Statement.{statement}
 use Rattle.verdict.proofs.reach.mark_rest.Tie as tie
 
 abbrev Inv-loop : tie.InvT-loop
-Inv-loop frames at marks₀ kids₀ p₀ k₀ marks kids p k = Going flags marked marks₀ marks k p (markAll (childrenAt frames p kids)) (markAll (rowAt frames at .rule .rest) (flags marks₀)) × (childrenEnd frames p kids ≡ rowEnd frames at)
+Inv-loop frames at marks₀ kids₀ p₀ k₀ marks kids p k = (p ≤ 32768) × Going flags marked marks₀ marks k (markAll (childrenAt frames p kids)) (markAll (rowAt frames at .rule .rest) (flags marks₀))
 
 abbrev μ-loop : tie.MeasureT-loop
 μ-loop frames at marks₀ kids₀ p₀ k₀ marks kids p k = kids
@@ -34,13 +33,12 @@ loop-holds c =
     let a = c .before .before .before .before .args in
     let F = a .frames .now in
     let m = a .marks .now in (
+      c .past .ensures .1,
       record {
-        near = c .past .ensures .1;
         long = refl;
         remains = ap (λ n. markAll (childrenAt F n (c .before .kids-at .result)) (flags m)) (c .past .ensures .0) ∙ ap (λ n. markAll (childrenAt F (pastAt F (a .at + 3)) n) (flags m)) (c .before .kids-at .ensures .0);
         counts = omega arith;
       },
-      ap (λ n. childrenEnd F n (c .before .kids-at .result)) (c .past .ensures .0) ∙ ap (λ n. childrenEnd F (pastAt F (a .at + 3)) n) (c .before .kids-at .ensures .0),
     )
 
 byte-requires : tie.Need-byte-requires Inv-loop μ-loop
@@ -53,13 +51,13 @@ mark-at-requires : tie.Need-mark-at-requires Inv-loop μ-loop
 mark-at-requires c κs = search needs
 
 add-k : tie.Need-add-k Inv-loop μ-loop
-add-k c = omega (arith, going-most 64 marked-most (c .before .before .before .before .before .before .before .before .before .before .before .before .pre .1) (c .before .before .before .before .before .before .before .loop .inv .0) (c .before .before .mark-at .ensures))
+add-k c = omega (arith, going-most 64 marked-most (c .before .before .before .before .before .before .before .before .before .before .before .before .pre .1) (c .before .before .before .before .before .before .before .loop .inv .1) (c .before .before .mark-at .ensures))
 
 add-past-2 : tie.Need-add-past-2 Inv-loop μ-loop
-add-past-2 c = omega (arith, c .before .before .before .before .before .before .before .loop .inv .0 .near)
+add-past-2 c = omega (arith, c .before .before .before .before .before .before .before .loop .inv .0)
 
 past-requires-2 : tie.Need-past-requires-2 Inv-loop μ-loop
-past-requires-2 c κs = omega (arith, c .before .before .before .before .before .before .before .loop .inv .0 .near)
+past-requires-2 c κs = omega (arith, c .before .before .before .before .before .before .before .loop .inv .0)
 
 sub-kids : tie.Need-sub-kids Inv-loop μ-loop
 sub-kids c = search needs
@@ -74,24 +72,16 @@ loop-again c =
     let p = l .p in
     let kids = l .kids in
     let q = c .before .before .before .before .before .wide .result in (
-      going-more (l .inv .0) (λ ms. set ms q true) (c .before .before .before .mark-at .ensures) (markAll (childrenAt F (c .past2 .result) (kids - 1)))
-          (λ ms. mark-more F p kids (c .before .before .before .before .before .before .before .loop-test .taken) ms ∙ ap (λ x. markAll (childrenAt F x (kids - 1)) (set ms (getD F p 0) true)) (sym (c .past2 .ensures .0)) ∙ ap (λ x. markAll (childrenAt F (c .past2 .result) (kids - 1)) (set ms x true)) (sym (c .before .before .before .before .before .wide .ensures .0 ∙ c .before .before .before .before .before .before .byte .ensures)))
-          (c .past2 .result) (c .past2 .ensures .1),
-      ap (λ n. childrenEnd F n (kids - 1)) (c .past2 .ensures .0) ∙ sym (end-more F p kids (c .before .before .before .before .before .before .before .loop-test .taken)) ∙ l .inv .1,
+      c .past2 .ensures .1,
+      going-more (l .inv .1) (λ ms. set ms q true) (c .before .before .before .mark-at .ensures) (markAll (childrenAt F (c .past2 .result) (kids - 1)))
+          (λ ms. mark-more F p kids (c .before .before .before .before .before .before .before .loop-test .taken) ms ∙ ap (λ x. markAll (childrenAt F x (kids - 1)) (set ms (getD F p 0) true)) (sym (c .past2 .ensures .0)) ∙ ap (λ x. markAll (childrenAt F (c .past2 .result) (kids - 1)) (set ms x true)) (sym (c .before .before .before .before .before .wide .ensures .0 ∙ c .before .before .before .before .before .before .byte .ensures))),
     )
 
 same-length : tie.Need-same-length Inv-loop μ-loop
-same-length c = c .before .loop .inv .0 .long
+same-length c = c .before .loop .inv .1 .long
 
 returns : tie.Need-returns Inv-loop μ-loop
-returns c =
-    let F = c .before .before .before .before .before .before .args .frames .now in
-    let l = c .before .loop in
-    record {
-      marks = going-done (l .inv .0) (mark-none F (l .p) (l .kids) (omega arith));
-      next = sym (end-none F (l .p) (l .kids) (omega arith)) ∙ l .inv .1;
-      near = l .inv .0 .near;
-    }
+returns c = going-done (c .before .loop .inv .1) (mark-none (c .before .before .before .before .before .before .args .frames .now) (c .before .loop .p) (c .before .loop .kids) (omega arith))
 
 pub mark-rest-spec : {M : Type 1} → statement M
 mark-rest-spec =

@@ -19,20 +19,13 @@ wide-requires c κs = search needs
 byte-requires-2 : tie.Need-byte-requires-2
 byte-requires-2 c κs = search needs
 
-past-row-requires : tie.Need-past-row-requires
-past-row-requires c κs = search needs
-
 same-length : tie.Need-same-length
 same-length c = search needs
 
 returns : tie.Need-returns
 returns c =
-    let a = c .before .before .before .before .before .before .before .before .args in
-    record {
-      marks = follow-not (rowAt (a .frames .now) (a .at)) (a .marks .now) (λ e. c .before .if1 .taken (c .before .before .byte2 .ensures ∙ ap (λ q. getD (a .marks .now) q 0) (c .before .before .before .before .wide .ensures .0 ∙ c .before .before .before .before .before .byte .ensures) ∙ e));
-      next = c .past-row .ensures .0;
-      near = c .past-row .ensures .1;
-    }
+    let a = c .before .before .before .before .before .before .before .args in
+    follow-not (rowAt (a .frames .now) (a .at)) (a .marks .now) (λ e. c .if1 .taken (c .before .byte2 .ensures ∙ ap (λ q. getD (a .marks .now) q 0) (c .before .before .before .wide .ensures .0 ∙ c .before .before .before .before .byte .ensures) ∙ e))
 
 mark-rest-requires : tie.Need-mark-rest-requires
 mark-rest-requires c κs = search needs
@@ -43,8 +36,7 @@ same-length-2 c = search needs
 returns-2 : tie.Need-returns-2
 returns-2 c =
     let a = c .before .before .before .before .before .before .before .before .before .before .before .args in
-    let r = c .before .before .mark-rest .ensures in
-    record { marks = follow-on (rowAt (a .frames .now) (a .at)) (a .marks .now) (ap (λ q. getD (a .marks .now) q 0) (sym (c .before .before .before .before .before .before .before .wide .ensures .0 ∙ c .before .before .before .before .before .before .before .before .byte .ensures)) ∙ sym (c .before .before .before .before .before .byte2 .ensures) ∙ c .before .before .before .before .if1 .left) (r .marks); next = r .next; near = r .near }
+    follow-on (rowAt (a .frames .now) (a .at)) (a .marks .now) (ap (λ q. getD (a .marks .now) q 0) (sym (c .before .before .before .before .before .before .before .wide .ensures .0 ∙ c .before .before .before .before .before .before .before .before .byte .ensures)) ∙ sym (c .before .before .before .before .before .byte2 .ensures) ∙ c .before .before .before .before .if1 .left) (c .before .before .mark-rest .ensures)
 
 pub mark-row-spec : {M : Type 1} → statement M
 mark-row-spec =
@@ -54,7 +46,6 @@ mark-row-spec =
     byte-requires
     wide-requires
     byte-requires-2
-    past-row-requires
     same-length
     returns
     mark-rest-requires

@@ -1,55 +1,54 @@
--- `mark_rows` meets its contract. Invariant: going over the rows that are left makes of these marks what is wanted.
-use mathlib.Core.Path.{sym, ap, _∙_}
+-- `mark_rows` meets its contract. Invariant: these marks are made by following the rows so far.
+use mathlib.Core.Path.{ap, _∙_}
 use Prim.Native.Nat.{_-_}
 use native.Mathlib.Omega.{arith}
-use Rattle.ends.specs.Companion.{marked, follow, spread}
+use Rattle.ends.specs.Companion.{marked, follow}
 use Rattle.verdict.specs.Codes.{flags}
-use Rattle.verdict.specs.Reading.{rowAt, rowsAt}
-use Rattle.verdict.proofs.Rounds.{Going, going-none, going-more, going-done, going-most}
-use Rattle.verdict.proofs.Marks.{marked-most, spread-more, spread-none}
+use Rattle.verdict.specs.Reading.{rowAt, rowOf}
+use Rattle.verdict.proofs.Rounds.{Trying, trying-none, trying-more, trying-done, trying-most}
+use Rattle.verdict.proofs.Marks.{marked-most, follow-still}
 use borrow.Author.Needs.{needs}
 use Rattle.verdict.proofs.reach.mark_rows.Statement.{statement}
 use Rattle.verdict.proofs.reach.mark_rows.Tie as tie
 
 abbrev Inv-loop : tie.InvT-loop
-Inv-loop frames rows rules marks₀ left₀ p₀ k₀ marks left p k = Going flags marked marks₀ marks k p (spread (rowsAt frames p left)) (spread (rowsAt frames rows rules) (flags marks₀))
+Inv-loop frames places rules down marks₀ j₀ k₀ marks j k = Trying flags marked follow (rowOf frames places) rules down marks₀ marks k j
 
 abbrev μ-loop : tie.MeasureT-loop
-μ-loop frames rows rules marks₀ left₀ p₀ k₀ marks left p k = left
+μ-loop frames places rules down marks₀ j₀ k₀ marks j k = rules - j
 
 loop-holds : tie.Need-loop-holds Inv-loop μ-loop
-loop-holds c =
-    let a = c .before .before .args in
-    going-none (a .marks .now) (a .rows) (spread (rowsAt (a .frames .now) (a .rows) (a .rules))) (c .before .before .pre .0)
+loop-holds c = trying-none (c .before .before .before .args .down) (c .before .before .before .args .marks .now)
+
+turned-requires : tie.Need-turned-requires Inv-loop μ-loop
+turned-requires c κs = search needs
+
+place-at-requires : tie.Need-place-at-requires Inv-loop μ-loop
+place-at-requires c κs = search needs
 
 mark-row-requires : tie.Need-mark-row-requires Inv-loop μ-loop
-mark-row-requires c κs = (c .before .before .loop .inv .near, c .before .before .loop .inv .long ∙ c .before .before .before .before .before .pre .1)
+mark-row-requires c κs = (c .before .place-at .ensures .1, c .before .before .before .before .loop .inv .long ∙ c .before .before .before .before .before .before .before .before .pre)
 
 add-k : tie.Need-add-k Inv-loop μ-loop
-add-k c = omega (arith, going-most 64 marked-most (c .before .before .before .before .before .before .before .before .before .pre .1) (c .before .before .before .before .before .before .loop .inv) (c .before .before .before .mark-row .ensures .marks))
+add-k c = omega (arith, trying-most 64 marked-most (c .before .before .before .before .before .before .before .before .before .before .before .pre) (c .before .before .before .before .before .before .before .loop .inv) (c .before .before .mark-row .ensures))
 
-sub-left : tie.Need-sub-left Inv-loop μ-loop
-sub-left c = search needs
+add-j : tie.Need-add-j Inv-loop μ-loop
+add-j c = search needs
 
 loop-less : tie.Need-loop-less Inv-loop μ-loop
 loop-less c = search needs
 
 loop-again : tie.Need-loop-again Inv-loop μ-loop
 loop-again c =
-    let w = c .before .before .before .mark-row .result in
-    let d = c .before .before .before .mark-row .ensures in
-    let F = c .before .before .before .before .before .before .before .before .before .args .frames .now in
-    let p = c .before .before .before .before .before .before .loop .p in
-    let left = c .before .before .before .before .before .before .loop .left in
-    going-more (c .before .before .before .before .before .before .loop .inv) (follow (rowAt F p)) (c .before .before .before .mark-row .ensures .marks) (spread (rowsAt F (w .next) (left - 1)))
-    (λ ms. spread-more F p left (c .before .before .before .before .before .loop-test .taken) ms ∙ ap (λ x. spread (rowsAt F x (left - 1)) (follow (rowAt F p) ms)) (sym (d .next)))
-    (w .next) (d .near)
+    let a = c .before .before .before .before .before .before .before .before .before .before .before .args in
+    let F = a .frames .now in
+    trying-more follow-still (c .before .before .before .before .before .before .before .loop .inv) (c .before .before .before .before .before .before .loop-test .taken) (ap (rowAt F) (c .before .before .before .before .place-at .ensures .0) ∙ ap (rowOf F (a .places .now)) (c .before .before .before .before .before .turned .ensures)) (c .before .before .mark-row .ensures)
 
 same-length : tie.Need-same-length Inv-loop μ-loop
 same-length c = c .before .loop .inv .long
 
 returns : tie.Need-returns Inv-loop μ-loop
-returns c = going-done (c .before .loop .inv) (spread-none (c .before .before .before .before .args .frames .now) (c .before .loop .p) (c .before .loop .left) (omega arith))
+returns c = trying-done (c .before .loop .inv) (omega arith)
 
 pub mark-rows-spec : {M : Type 1} → statement M
 mark-rows-spec =
@@ -58,9 +57,11 @@ mark-rows-spec =
     Inv-loop
     μ-loop
     loop-holds
+    turned-requires
+    place-at-requires
     mark-row-requires
     add-k
-    sub-left
+    add-j
     loop-less
     loop-again
     same-length
