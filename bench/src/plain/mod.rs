@@ -1,0 +1,4 @@
+//! The same work in plain safe Rust, written straightforwardly.
+
+pub mod open;
+pub mod word;

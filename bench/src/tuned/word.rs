@@ -1,0 +1,139 @@
+//! The word of a tree by an opened table, fast: one measuring loop that leaves a plan, then writing
+//! by the plan, 32 bytes at a time. It trusts the table to be opened. Anything unusual goes to the
+//! plain walk.
+
+use crate::plain;
+use crate::proved::{Opened, ENTRIES, FRAMES, LONGEST};
+
+/// Length and terms, or the number of no and the place.
+pub type Answer = Result<(usize, usize), (u8, usize)>;
+
+/// Where a child's state stands in a rule's entry, less 6: the state comes out times 64.
+const CHILDREN: [u32; 4] = [16, 30, 36, 42];
+
+/// Letters and letters 20 of a tree; none where it is no tree with a word. States are kept times
+/// 64, and in what waits there is 4,096 for each symbol above.
+fn measure(table: &Opened, tree: &[u8], plan: &mut [u32; LONGEST]) -> Option<(usize, usize)> {
+    let mut waiting = [0u32; 256];
+    waiting[0] = 64 * 4096;
+    let mut top: u8 = u8::from(!tree.is_empty());
+    let mut state = table.head[2] * 64;
+    let mut level = 0;
+    let mut sum = 0;
+    for (slot, &f) in plan.get_mut(..tree.len())?.iter_mut().zip(tree) {
+        if f > 63 || level > 63 * 4096 {
+            return None;
+        }
+        let x = table.index[(state + usize::from(f)) % ENTRIES];
+        if x == 0 {
+            return None;
+        }
+        *slot = ((x >> 8) & 16383 | (x >> 40) & (7 << 14)) as u32;
+        sum += x & 255 | x & (255 << 28);
+        let deeper = level + 4096;
+        let child = |n: usize| (x >> CHILDREN[n]) as u32 & 4032;
+        let below = waiting[usize::from(top.wrapping_sub(1))];
+        waiting[usize::from(top)] = deeper + child(1);
+        waiting[usize::from(top.wrapping_add(1))] = deeper + child(2);
+        waiting[usize::from(top.wrapping_add(2))] = deeper + child(3);
+        let kids = (x >> 54) as u8 & 7;
+        state = (if kids == 0 { below & 4032 } else { child(0) }) as usize;
+        level = if kids == 0 { below & !4095 } else { deeper };
+        top = top.wrapping_add(kids).wrapping_sub(1);
+    }
+    (top == 0 && !tree.is_empty()).then_some((sum as usize & ((1 << 28) - 1), (sum >> 28) as usize))
+}
+
+/// Puts the word at `from` into the room from `at` on, 32 bytes where the room has them, and
+/// answers its length.
+#[inline(always)]
+pub fn put(frames: &[u8; FRAMES], from: usize, room: &mut [u8], at: usize) -> usize {
+    let from = from & 16383;
+    let n = usize::from(frames[from]);
+    if let Some(place) = room.get_mut(at..at + 32) {
+        place.copy_from_slice(&frames[from + 1..from + 33]);
+    } else {
+        put_last(&frames[from + 1..from + 33], n, room, at);
+    }
+    n
+}
+
+#[cold]
+fn put_last(word: &[u8], n: usize, room: &mut [u8], at: usize) {
+    room[at..at + n].copy_from_slice(&word[..n]);
+}
+
+/// The writing pass: it calls itself for each child and lends it the room on from its current end.
+/// The letters of the tree.
+fn eval(frames: &[u8; FRAMES], plan: &mut std::slice::Iter<u32>, room: &mut [u8]) -> usize {
+    let Some(&entry) = plan.next() else {
+        return 0;
+    };
+    let mut from = entry as usize;
+    let mut left = entry >> 14;
+    let mut end = 0;
+    loop {
+        let n = put(frames, from, room, end);
+        end += n;
+        if left == 0 {
+            return end;
+        }
+        from += n + 2;
+        end += eval(frames, plan, room.get_mut(end..).unwrap_or_default());
+        left -= 1;
+    }
+}
+
+/// Lends the writing pass 32 bytes behind the word, where the room has them, and puts them back.
+#[inline(always)]
+fn lend(room: &mut [u8], end: usize, write: impl FnOnce(&mut [u8])) {
+    let behind: Option<[u8; 32]> = room
+        .get(end..end + 32)
+        .map(|kept| kept.try_into().expect("32 bytes"));
+    match behind {
+        Some(kept) => {
+            write(&mut room[..end + 32]);
+            room[end..end + 32].copy_from_slice(&kept);
+        }
+        None => write(&mut room[..end]),
+    }
+}
+
+fn stretch(frames: &[u8; FRAMES], at: usize) -> &[u8] {
+    &frames[at + 1..at + 1 + usize::from(frames[at])]
+}
+
+fn gaps(word: &[u8]) -> usize {
+    word.iter().filter(|&&letter| letter == b' ').count()
+}
+
+#[inline(always)]
+pub fn find_by(
+    table: &Opened,
+    tree: &[u8],
+    plan: &mut [u32; LONGEST],
+    room: &mut [u8],
+    write: impl FnOnce(&[u8; FRAMES], &[u32; LONGEST], &mut [u8]),
+) -> Answer {
+    let Some((letters, spaces)) = measure(table, tree, plan) else {
+        return plain::word::find(table, tree, &mut Vec::new(), room);
+    };
+    let before = stretch(&table.frames, table.head[3]);
+    let after = stretch(&table.frames, table.head[4]);
+    let length = before.len() + letters + after.len();
+    if room.len() < length {
+        return Err((12, length));
+    }
+    room[..before.len()].copy_from_slice(before);
+    lend(&mut room[before.len()..], letters, |part| {
+        write(&table.frames, plan, part)
+    });
+    room[before.len() + letters..length].copy_from_slice(after);
+    Ok((length, gaps(before) + spaces + gaps(after) + 1))
+}
+
+pub fn find(table: &Opened, tree: &[u8], plan: &mut [u32; LONGEST], room: &mut [u8]) -> Answer {
+    find_by(table, tree, plan, room, |frames, plan, part| {
+        eval(frames, &mut plan.iter(), part);
+    })
+}
