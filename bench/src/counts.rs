@@ -64,41 +64,43 @@ impl Side {
     }
 }
 
-/// Goes over the rows until nothing changes, and tells how often.
-fn sweeps(mut sweep: impl FnMut() -> bool) -> usize {
-    let mut count = 1;
-    while sweep() {
+/// Goes over the rows, down and up by turns, until nothing changes, and tells how often.
+fn sweeps(rules: &[Rule], mut down: bool, mut visit: impl FnMut(&Rule) -> bool) -> usize {
+    let mut count = 0;
+    loop {
+        let mut changed = false;
+        for at in 0..rules.len() {
+            changed |= visit(&rules[if down { rules.len() - 1 - at } else { at }]);
+        }
         count += 1;
+        down = !down;
+        if !changed {
+            return count;
+        }
     }
-    count
 }
 
 fn marks(table: &Table) -> (Vec<bool>, usize) {
     let mut marks = vec![false; usize::from(table.states)];
     marks[usize::from(table.initial.state)] = true;
-    let count = sweeps(|| {
-        let before = marks.clone();
-        for rule in &table.rules {
-            if marks[usize::from(rule.state)] {
-                rule.children
-                    .iter()
-                    .for_each(|child| marks[usize::from(child.state)] = true);
+    let count = sweeps(&table.rules, false, |rule| {
+        let mut changed = false;
+        if marks[usize::from(rule.state)] {
+            for child in &rule.children {
+                changed |= !std::mem::replace(&mut marks[usize::from(child.state)], true);
             }
         }
-        before != marks
+        changed
     });
     (marks, count)
 }
 
 fn ends(side: Side, table: &Table) -> (Vec<Ends>, usize) {
     let mut values = vec![0; usize::from(table.states)];
-    let count = sweeps(|| {
-        let before = values.clone();
-        for rule in &table.rules {
-            let state = usize::from(rule.state);
-            values[state] = joined(values[state], side.value(rule, &values));
-        }
-        before != values
+    let count = sweeps(&table.rules, true, |rule| {
+        let state = usize::from(rule.state);
+        let new = joined(values[state], side.value(rule, &values));
+        std::mem::replace(&mut values[state], new) != new
     });
     (values, count)
 }
