@@ -21,7 +21,7 @@ fn arity(table: &Opened, symbol: u8) -> Option<u8> {
 
 fn rule(table: &Opened, state: u8, symbol: u8) -> Option<Rule> {
     let entry = table.index[usize::from(state) * 64 + usize::from(symbol)];
-    (entry != 0).then(|| Rule {
+    (entry != 0).then_some(Rule {
         at: (entry >> 8) as usize & 16383,
         kids: (entry >> 54) as usize & 7,
     })

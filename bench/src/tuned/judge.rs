@@ -1,5 +1,5 @@
-//! The judgement by sweeps over the rows of the opened bytes until nothing rises: up, then down and
-//! up in turn over the rows' places, which the first sweep leaves.
+//! The judgement by sweeps over the rows of the opened bytes until nothing rises. The first one
+//! goes up and leaves the rows' places; the others go down and up by turns.
 
 use super::open::open;
 use crate::proved::{Opened, FRAMES};
@@ -50,7 +50,7 @@ fn reached(table: &Opened) -> (u64, Vec<u16>) {
         at = mark(frames, at, &mut marks).1;
     }
     if marks != bit(start) {
-        sweep_on(&places, |at| mark(frames, at, &mut marks).0);
+        sweep_by_turns(&places, |at| mark(frames, at, &mut marks).0);
     }
     (marks, places)
 }
@@ -72,9 +72,9 @@ fn mark(frames: &[u8; FRAMES], at: usize, marks: &mut u64) -> (bool, usize) {
     (*marks != old, next)
 }
 
-/// Goes on after a sweep up: down and up in turn, until a sweep changes nothing.
+/// Goes over the rows down and up by turns, until a sweep changes nothing.
 #[inline(always)]
-fn sweep_on(places: &Places, mut visit: impl FnMut(usize) -> bool) {
+fn sweep_by_turns(places: &Places, mut visit: impl FnMut(usize) -> bool) {
     loop {
         if !places
             .iter()
@@ -182,13 +182,7 @@ fn add<const LEFT: bool>(frames: &[u8; FRAMES], at: usize, values: &mut [Ends; 6
 #[inline(never)]
 fn ends<const LEFT: bool>(frames: &[u8; FRAMES], places: &Places) -> [Ends; 64] {
     let mut values = [0; 64];
-    let mut visit = |at| add::<LEFT>(frames, at, &mut values);
-    if places
-        .iter()
-        .fold(false, |risen, &at| visit(at.into()) | risen)
-    {
-        sweep_on(places, visit);
-    }
+    sweep_by_turns(places, |at| add::<LEFT>(frames, at, &mut values));
     values
 }
 
