@@ -53,6 +53,12 @@ module _ (R ys w : List ℕ) (from end : ℕ) (is : end ≡ from + length w) (fr
         e ∙ append-assoc (take end left) piece (drop (end + 32) left) ∙ ap (λ (x : List ℕ). take end left ++ x) (lent-behind piece b)
         ∙ ap (λ (x : List ℕ). x ++ drop end R) lent-front
 
+-- Of a room with 32 bytes behind `end` as many are saved.
+pub saved-long : (R piece : List ℕ) (end : ℕ) → end + 32 ≤ length R → piece ≡ take 32 (drop end R) → 32 ≡ length piece
+saved-long R piece end h b =
+    let n : end + 32 - end ≡ 32 = omega arith in
+    sym (ap (λ (x : List ℕ). length x) (b ∙ ap (λ (k : ℕ). take k (drop end R)) (sym n)) ∙ mid-len end (end + 32) R h ∙ n)
+
 module _ {F P : List ℕ} {letters : ℕ} {M : Table} {q : ℕ} {t : Tree} {w : Word} (d : Due F P 0 64 letters M q t w) (many : letters ≡ length w) where
   -- Writing is due too where more letters have room.
   due-in : (room : ℕ) → letters ≤ room → Due F P 0 64 room M q t w
@@ -71,9 +77,11 @@ module _ {F P : List ℕ} {letters : ℕ} {M : Table} {q : ℕ} {t : Tree} {w : 
       → piece ≡ take 32 (drop (from + letters) R)
       → Pens F P 64 0 (length (take (from + letters + 32 - from) (drop from R))) ys s
       → Tidy (take (from + letters + 32 - from) (drop from R)) ys s
-      → (let B = putMid from (from + letters + 32 - from) R ys in R′ ≡ take (from + letters) B ++ piece ++ drop (from + letters + 32) B)
+      → (let B = putMid from (from + letters + 32 - from) R ys in R′ ≡ take (from + letters) B ++ piece ++ drop (from + letters + length piece) B)
       → R′ ≡ take from R ++ w ++ drop (from + letters) R
   more-put R R′ ys piece from h b pens tidy e =
       let end : ℕ = from + letters in
       let l : length (take (end + 32 - from) (drop from R)) ≡ end + 32 - from = mid-len from (end + 32) R h in
-      lent-more R ys w from end (omega arith) (pens M q t w (due-in _ (omega (arith, l))) .front) h (tidy .long) R′ piece b e
+      let B : List ℕ = putMid from (end + 32 - from) R ys in
+      let n = ap (λ (k : ℕ). take end B ++ piece ++ drop (end + k) B) (sym (saved-long R piece end h b)) in
+      lent-more R ys w from end (omega arith) (pens M q t w (due-in _ (omega (arith, l))) .front) h (tidy .long) R′ piece b (e ∙ n)

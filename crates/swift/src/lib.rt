@@ -32,18 +32,6 @@ fn saved(room: &[u8], at: usize) -> [u8; 32]
     piece
 }
 
-// Stores 32 bytes in the room from `at` on.
-fn store(piece: [u8; 32], room: &mut [u8], at: usize)
-    requires { ⌜ at + 32 ≤ length (now room) ⌝ }
-    ensures { λ _. ⌜ now (room .exit) ≡ take at (now (room .entry)) ++ piece ++ drop (at + 32) (now (room .entry)) ⌝ }
-{
-    let mut i = 0;
-    while i < 32 {
-        room[at + i] = piece[i];
-        i += 1;
-    }
-}
-
 // Writes the word of a planned tree, of so many letters, into the room from `from` on. Where the
 // room has 32 bytes behind the word they are lent too, so that its last letters are copied at once,
 // and put back afterwards.
@@ -60,7 +48,7 @@ fn put_tree(frames: &[u8; 16448], plan: &[u32; 32768], letters: usize, room: &mu
     let behind = saved(room, end);
     let spare = end + 32;
     pen::eval(64, plan, frames, 0, &mut room[from..spare]);
-    store(behind, room, end);
+    walk::put(&behind, room, end);
 }
 
 // Writes the word of a tree that was counted, between the words of the initial rule: 12 with the

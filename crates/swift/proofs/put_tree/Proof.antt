@@ -1,7 +1,8 @@
 -- `put_tree` meets its contract: exactly the word's part was lent, or 32 bytes more that were put back. Assumes nothing.
+use Prim.Native.Nat.{_+_}
 use native.Mathlib.Omega.{arith}
 use borrow.Author.Needs.{needs}
-use Rattle.swift.proofs.Lent.{exactly-put, more-put}
+use Rattle.swift.proofs.Lent.{exactly-put, more-put, saved-long}
 use Rattle.swift.proofs.put_tree.Statement.{statement}
 use Rattle.swift.proofs.put_tree.Tie as tie
 
@@ -52,8 +53,16 @@ part-eval-end-2 c = search needs
 eval-requires-2 : tie.Need-eval-requires-2
 eval-requires-2 c κs = search needs
 
-store-requires : tie.Need-store-requires
-store-requires c κs = search needs
+slice-aggregate-put : tie.Need-slice-aggregate-put
+slice-aggregate-put c =
+    let written = c .before .before .before in
+    let kept = written .before .before in
+    let begun = kept .before .before .before .before in
+    let a = begun .args in
+    saved-long (a .room .now) (kept .saved .result) (a .from + a .letters) (omega (arith, kept .before .before .if1 .left, begun .pre .1)) (kept .saved .ensures)
+
+put-requires : tie.Need-put-requires
+put-requires c κs = search needs
 
 same-length-2 : tie.Need-same-length-2
 same-length-2 c = search needs
@@ -61,7 +70,7 @@ same-length-2 c = search needs
 returns-2 : tie.Need-returns-2
 returns-2 c =
     let back = c .before .before in
-    let written = back .before .before .before .before in
+    let written = back .before .before .before .before .before in
     let kept = written .before .before in
     let begun = kept .before .before .before .before in
     let a = begun .args in
@@ -70,7 +79,7 @@ returns-2 c =
     d
     many
     (a .room .now)
-    (back .store .last .1 .0)
+    (back .put .last .1 .0)
     (written .eval2 .last .1 .1 .1 .1 .0)
     (kept .saved .result)
     (a .from)
@@ -78,7 +87,7 @@ returns-2 c =
     (kept .saved .ensures)
     (written .eval2 .ensures .0)
     (written .eval2 .ensures .1)
-    (back .store .ensures)
+    (back .put .ensures .1)
 
 pub put-tree-spec : {M : Type 1} → statement M
 put-tree-spec =
@@ -98,6 +107,7 @@ put-tree-spec =
     part-eval-start-2
     part-eval-end-2
     eval-requires-2
-    store-requires
+    slice-aggregate-put
+    put-requires
     same-length-2
     returns-2)
