@@ -1,16 +1,16 @@
 -- The child states of a rule and of a state's rules are met: child by child and symbol by symbol.
 use mathlib.Core.Path.{_≡_, refl, sym, ap, subst, _∙_}
 use mathlib.Core.List.{List, [], _∷_, _++_, List·Memᴰ, List·Memᴰ·head, List·Memᴰ·tail, List·Memᴰ·not-nil, List·Memᴰ·cases-cons}
-use mathlib.Core.Logic.{_⊎_, inl, inr, ⊎-elim}
+use mathlib.Core.Logic.{_⊎_, inl, inr}
 use mathlib.Core.Option.{Option, none, some, Option·some-injective, Option·none-ne-some}
-use Prim.Native.Nat.{ℕ, zero, suc, _+_, _<_, _≤_}
+use Prim.Native.Nat.{ℕ, zero, suc, _+_, _<_}
 use native.Mathlib.Decide.{decLt}
 use native.Mathlib.Numerals.{add-one}
 use native.Mathlib.Omega.{arith}
 use lib.ListN.{length, getD, drop}
 use Rattle.machine.specs.Machine.{Child, Rule, Table, find}
 use Rattle.text.specs.Writing.{childrenText}
-use Rattle.layout.specs.Leaves.{behindAt, PlaceOf, LookedUp}
+use Rattle.layout.specs.Leaves.{behindAt, LookedUp}
 use Rattle.layout.specs.declared.Place.{Place}
 use Rattle.layout.specs.declared.Lookup.the-variants.{Found, Missing}
 use Rattle.layout.proofs.Stretches.{first-behind, child-state, child-behind}

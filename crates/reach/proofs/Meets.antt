@@ -24,7 +24,7 @@ unmarked-most (x ∷ m) = go (eqb x 1) (unmarked-most m)
     go false h = omega arith
 
 -- A mark at a state that was not marked leaves one less.
-pub unmarked-less : (m : List ℕ) (q : ℕ) → q < length m → (getD m q 0 ≡ 1 → ⊥) → unmarked (set m q 1) + 1 ≡ unmarked m
+unmarked-less : (m : List ℕ) (q : ℕ) → q < length m → (getD m q 0 ≡ 1 → ⊥) → unmarked (set m q 1) + 1 ≡ unmarked m
 unfolding unmarked
 unmarked-less [] q l h = absurd (omega arith)
 unmarked-less (x ∷ m) zero l h = go (eqb x 1) refl
@@ -44,8 +44,8 @@ pub room-left : (m O : List ℕ) (n q : ℕ) → Room m O n → q < 64 → (getD
 room-left m O n q r l h = omega (arith, r .2, unmarked-less m q (omega (arith, r .0)) h)
 
 -- There stays room when that state is marked and put there.
-pub room-one : (m O : List ℕ) (n q v : ℕ) → Room m O n → q < 64 → (getD m q 0 ≡ 1 → ⊥) → Room (set m q 1) (set O n v) (n + 1)
-room-one m O n q v r l h = (length-set m q 1 ∙ r .0, length-set O n v ∙ r .1, omega (arith, r .2, unmarked-less m q (omega (arith, r .0)) h))
+pub room-one : (m O : List ℕ) (n q : ℕ) → Room m O n → q < 64 → (getD m q 0 ≡ 1 → ⊥) → Room (set m q 1) (set O n q) (n + 1)
+room-one m O n q r l h = (length-set m q 1 ∙ r .0, length-set O n q ∙ r .1, omega (arith, r .2, unmarked-less m q (omega (arith, r .0)) h))
 
 -- ---- none, and then others
 -- Nothing changes where each state that is to be met is marked or is no state.
@@ -82,19 +82,19 @@ met-then {Q} {R} {S} {m} {O} {l} {P} {j} {N} {n} {k} {t} f g split a b =
 
 -- ---- one
 -- A state that was not marked is marked and put behind the list.
-pub met-one : (m O : List ℕ) (n q v : ℕ) → q < length m → n < length O → v ≡ q → Met (λ s. q ≡ s) m O n (set m q 1) (set O n v) (n + 1)
-met-one m O n q v l r e =
+pub met-one : (m O : List ℕ) (n q : ℕ) → q < length m → n < length O → Met (λ s. q ≡ s) m O n (set m q 1) (set O n q) (n + 1)
+met-one m O n q l r =
     record {
       more = omega arith;
       keeps = λ s h. elim (ℕ-discrete s q) [ yes d ↦ ap (λ (x : ℕ). getD (set m q 1) x 0) d ∙ here | no d ↦ getD-set-other m q s 1 0 d ∙ h ];
-      stays = λ i h. getD-set-other O n i v 0 (λ d. omega arith);
+      stays = λ i h. getD-set-other O n i q 0 (λ d. omega arith);
       listed = λ s h. elim (ℕ-discrete s q) [ yes d ↦ inr (n, omega arith, last ∙ sym d) | no d ↦ inl (sym (getD-set-other m q s 1 0 d) ∙ h) ];
-      fresh = λ i a b. sym (ap (λ (x : ℕ). getD (set O n v) x 0) (omega arith) ∙ last);
+      fresh = λ i a b. sym (ap (λ (x : ℕ). getD (set O n q) x 0) (omega arith) ∙ last);
       meets = λ s d h. ap (λ (x : ℕ). getD (set m q 1) x 0) (sym d) ∙ here;
     }
   where
     here : getD (set m q 1) q 0 ≡ 1
     here = getD-set-same m q 1 0 l
 
-    last : getD (set O n v) n 0 ≡ q
-    last = getD-set-same O n v 0 r ∙ e
+    last : getD (set O n q) n 0 ≡ q
+    last = getD-set-same O n q 0 r

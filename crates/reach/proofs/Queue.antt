@@ -1,12 +1,13 @@
--- The queue: the states that are listed are reached, and those behind which all rules were followed are closed under children.
-use mathlib.Core.Path.{_≡_, refl, sym, subst, _∙_}
+-- The queue: the states that are listed are reached, and the children of those that have been taken are marked.
+use mathlib.Core.Path.{_≡_, refl, sym, ap, subst, _∙_}
 use mathlib.Core.List.{List}
 use mathlib.Core.Logic.{⊎-elim}
+use mathlib.Core.Option.{some}
 use Prim.Native.Nat.{ℕ, _+_, _<_, _≤_}
 use native.Mathlib.Decide.{decLt}
 use native.Mathlib.Omega.{arith}
-use lib.ListN.{length, getD}
-use Rattle.machine.specs.Machine.{Table, WellMade}
+use lib.ListN.{length, getD, getElem?}
+use Rattle.machine.specs.Machine.{Row, Table, Each, find}
 use Rattle.machine.specs.Earliest.{Reached, initial, below}
 use Rattle.machine.proofs.Find.{find-fits, find-row}
 use Rattle.machine.proofs.Late.{each-child}
@@ -74,13 +75,14 @@ module _ {F I : List ℕ} {M : Table} (o : Opened F I M) where
   taken-done {m} {O} {n} {i} t b =
       record {
         marked = λ q e. let w = t .listed q e in subst (Reached M) (w .2) (t .reached (w .0) (w .1));
-        reached = reached-within M (λ q. getD m q 0 ≡ 1) (t .start)
-            (λ j row e h.
-            let w = t .listed (row .state) h in
-            let found = find-row (M .rows) (o .limited .made .rising) j row e in
-            among-each (λ c. getD m (c .state) 0 ≡ 1) (row .rule .rest)
-            (λ c a.
-            t .closed (w .0) (omega (arith, w .1)) (row .symbol) (c .state)
-            (subst (λ (y : ℕ). ChildBy M y (row .symbol) (c .state)) (sym (w .2)) (record { rule = row .rule; found = found; child = c; among = a; state = refl }))));
+        reached = reached-within M (λ q. getD m q 0 ≡ 1) (t .start) follow;
         listed = t .listed;
       }
+    where
+      follow : (j : ℕ) (row : Row) → getElem? (M .rows) j ≡ some row → getD m (row .state) 0 ≡ 1 → Each (λ c ds. getD m (c .state) 0 ≡ 1) (row .rule .rest)
+      follow j row e h =
+          let w = t .listed (row .state) h in
+          let found : find (M .rows) (getD O (w .0) 0) (row .symbol) ≡ some (row .rule) =
+          ap (λ (q : ℕ). find (M .rows) q (row .symbol)) (w .2) ∙ find-row (M .rows) (o .limited .made .rising) j row e in
+          among-each (λ c. getD m (c .state) 0 ≡ 1) (row .rule .rest)
+          (λ c a. t .closed (w .0) (omega (arith, w .1)) (row .symbol) (c .state) (record { rule = row .rule; found = found; child = c; among = a; state = refl }))

@@ -1,5 +1,5 @@
 -- `meet` meets its contract: no state, a state that is marked already, or one more.
-use mathlib.Core.Path.{_≡_, refl, sym, ap, _∙_}
+use mathlib.Core.Path.{_≡_, sym, ap, _∙_}
 use Prim.Native.Nat.{ℕ}
 use native.Mathlib.Omega.{arith}
 use lib.ListN.{getD}
@@ -30,7 +30,8 @@ cast-order c = search needs
 slice-write-order : tie.Need-slice-write-order
 slice-write-order c =
     let a = c .before .before .before .args in
-    omega (arith, c .before .before .before .pre .1, room-left (a .marks .now) (a .order .now) (a .n) (a .q) (c .before .before .before .pre) (omega arith) (c .if2 .left))
+    let h = c .before .before .before .pre in
+    omega (arith, h .1, room-left (a .marks .now) (a .order .now) (a .n) (a .q) h (omega arith) (c .if2 .left))
 
 add-result : tie.Need-add-result
 add-result c = search needs
@@ -44,8 +45,12 @@ same-length-2 c = search needs
 returns-3 : tie.Need-returns-3
 returns-3 c =
     let a = c .before .before .before .args in
-    let l = room-left (a .marks .now) (a .order .now) (a .n) (a .q) (c .before .before .before .pre) (omega arith) (c .if2 .left) in
-    (room-one (a .marks .now) (a .order .now) (a .n) (a .q) (a .q) (c .before .before .before .pre) (omega arith) (c .if2 .left), met-one (a .marks .now) (a .order .now) (a .n) (a .q) (a .q) (omega (arith, c .before .before .before .pre .0)) (omega (arith, c .before .before .before .pre .1, l)) refl)
+    let m = a .marks .now in
+    let O = a .order .now in
+    let h = c .before .before .before .pre in (
+      room-one m O (a .n) (a .q) h (omega arith) (c .if2 .left),
+      met-one m O (a .n) (a .q) (omega (arith, h .0)) (omega (arith, h .1, room-left m O (a .n) (a .q) h (omega arith) (c .if2 .left))),
+    )
 
 pub meet-spec : {M : Type 1} → statement M
 meet-spec =

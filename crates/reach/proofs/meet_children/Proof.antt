@@ -1,8 +1,7 @@
 -- `meet_children` meets its contract: the states of the children passed are met, and the place is that of the next child.
-use mathlib.Core.Path.{_≡_, refl, sym, ap, subst, _∙_}
+use mathlib.Core.Path.{_≡_, refl, sym, ap, _∙_}
 use Prim.Native.Nat.{ℕ, _+_, _-_, _*_, _≤_}
 use native.Mathlib.Omega.{arith}
-use lib.ListN.{getD}
 use Rattle.layout.specs.Leaves.{behindAt}
 use Rattle.reach.specs.Meeting.{Room, Met, AmongFirst, placeAt}
 use Rattle.reach.proofs.Children.{place-next, children-none, children-more, children-as}

@@ -1,6 +1,6 @@
 -- `reach` meets its contract: the states below the counter have been taken.
 use mathlib.Core.Path.{_≡_, _∙_}
-use Prim.Native.Nat.{_-_, _≤_}
+use Prim.Native.Nat.{_-_}
 use native.Mathlib.Omega.{arith}
 use lib.ListN.{length}
 use Rattle.machine.specs.Machine.{Table}
@@ -22,7 +22,9 @@ at-most-64-requires : tie.Need-at-most-64-requires Inv-loop μ-loop
 at-most-64-requires c κs = search needs
 
 meet-requires : tie.Need-meet-requires Inv-loop μ-loop
-meet-requires c κs = (c .before .before .before .before .before .before .before .pre .0, c .before .before .before .before .before .before .before .pre .1, omega (arith, c .before .before .before .before .before .before .before .pre .0, unmarked-most (c .before .before .before .before .before .before .before .args .marks .now)))
+meet-requires c κs =
+    let h = c .before .before .before .before .before .before .before .pre in
+    (h .0, h .1, omega (arith, h .0, unmarked-most (c .before .before .before .before .before .before .before .args .marks .now)))
 
 loop-holds : tie.Need-loop-holds Inv-loop μ-loop
 loop-holds c = (c .before .before .before .before .meet .ensures .0, λ M o e d. taken-start o (c .before .before .before .before .before .before .before .before .before .before .before .before .args .start) d (c .before .before .before .before .before .before .before .before .before .before .before .before .pre .2) (c .before .before .before .before .meet .ensures .1))
@@ -44,9 +46,10 @@ loop-less c = omega (arith, c .before .before .before .before .before .before .b
 
 loop-again : tie.Need-loop-again Inv-loop μ-loop
 loop-again c =
+    let most = c .before .before .before .before .before .before .before .before .before .before .before .before .before .before .before .before .before .before .before .at-most-64 in
     let l = c .before .before .before .before .before .before .before .before .before .before .before .loop in (
       c .before .before .before .before .meet-rules .ensures .0,
-      λ M o e d. taken-next o (c .before .before .before .before .before .before .before .wide .result) (c .before .before .before .before .before .before .before .before .before .before .before .before .before .before .before .before .before .before .before .at-most-64 .result) (l .inv .1 M o e d) (c .before .before .before .before .before .before .before .before .before .before .loop-test .taken) (c .before .before .before .before .before .before .before .wide .ensures .0 ∙ c .before .before .before .before .before .before .before .before .byte .ensures) (c .before .before .before .before .before .before .before .before .before .before .before .before .before .before .before .before .before .before .before .at-most-64 .ensures (omega (arith, e, o .limited .symbols)) ∙ e) (c .before .before .before .before .meet-rules .ensures .1 M o),
+      λ M o e d. taken-next o (c .before .before .before .before .before .before .before .wide .result) (most .result) (l .inv .1 M o e d) (c .before .before .before .before .before .before .before .before .before .before .loop-test .taken) (c .before .before .before .before .before .before .before .wide .ensures .0 ∙ c .before .before .before .before .before .before .before .before .byte .ensures) (most .ensures (omega (arith, e, o .limited .symbols)) ∙ e) (c .before .before .before .before .meet-rules .ensures .1 M o),
     )
 
 same-length : tie.Need-same-length Inv-loop μ-loop
