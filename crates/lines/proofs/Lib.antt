@@ -1,3 +1,4 @@
 -- Laws of taking a line.
+pub mod Values
 pub mod Scan
 pub mod Laws

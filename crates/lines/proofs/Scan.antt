@@ -2,58 +2,19 @@
 use mathlib.Core.Path.{_≡_, refl, sym, ap, _∙_}
 use mathlib.Core.List.{List, [], _∷_, _++_, append-assoc, append-nil}
 use mathlib.Core.Option.{Option, none, some}
-use Prim.Native.Nat.{ℕ, suc, _+_, _-_, _*_, _/_, _%_, _<_, _≤_}
+use Prim.Native.Nat.{ℕ, suc, _+_, _-_, _*_, _<_, _≤_}
+use native.Mathlib.Decide.{decLt}
 use native.Mathlib.Numerals.{add-one}
 use native.Mathlib.Omega.{arith}
 use native.Mathlib.Nat.{add-zero}
-use borrow.Author.Tests.{le-leb, lt-leb, eq-eqb, ne-eqb}
+use borrow.Author.Tests.{eq-eqb, ne-eqb}
 use lib.ListN.{length, getD, take, drop, set, length-append, length-drop, drop-of-length-le, take-append-drop}
 use lib.Seq.{drop-cons, set-at, length-take-le, take-at, append-snoc}
 use Rattle.text.specs.Lines.{digit}
-use Rattle.text.proofs.Digits.{digit-inv}
-use Rattle.lines.specs.Scan.{Scanned, whole, bad, withByte, scan, valueOr16, Put, Kept, Taken}
+use Rattle.lines.specs.Scan.{Scanned, whole, bad, withByte, scan, Put, Kept, Closed, Taken}
+use Rattle.lines.specs.declared.Line.{Line}
 use Rattle.lines.specs.declared.Line.the-variants.{Whole, Bad}
-
--- ---- a digit's value
-
--- From 0 to 9.
-pub value-low : (c : ℕ) → 48 ≤ c → c ≤ 57 → c % 16 + c / 64 * 9 ≡ valueOr16 (digit c)
-unfolding digit
-value-low c h k = rw (le-leb 48 c h, le-leb c 57 k, digit) (omega arith)
-
--- From a to f.
-pub value-high : (c : ℕ) → 97 ≤ c → c ≤ 102 → c % 16 + c / 64 * 9 ≡ valueOr16 (digit c)
-unfolding digit
-value-high c h k = rw (le-leb 48 c (omega arith), lt-leb c 57 (omega arith), le-leb 97 c h, le-leb c 102 k, digit) (omega arith)
-
--- Before 0, between 9 and a, behind f.
-pub value-before : (c : ℕ) → c < 48 → 16 ≡ valueOr16 (digit c)
-unfolding digit
-value-before c h = rw (lt-leb 48 c h, lt-leb 97 c (omega arith), digit)
-
-pub value-between : (c : ℕ) → 57 < c → c < 97 → 16 ≡ valueOr16 (digit c)
-unfolding digit
-value-between c h k = rw (le-leb 48 c (omega arith), lt-leb c 57 h, lt-leb 97 c k, digit)
-
-pub value-behind : (c : ℕ) → 102 < c → 16 ≡ valueOr16 (digit c)
-unfolding digit
-value-behind c h = rw (le-leb 48 c (omega arith), lt-leb c 57 (omega arith), le-leb 97 c (omega arith), lt-leb c 102 h, digit)
-
--- A value below 16 is a digit's.
-pub value-digit : (c v : ℕ) → v ≡ valueOr16 (digit c) → v ≤ 15 → digit c ≡ some v
-value-digit c v e h = go (digit c) e
-  where
-    go : (o : Option ℕ) → v ≡ valueOr16 o → o ≡ some v
-    go (some w) f = ap some (sym f)
-    go none f = absurd (omega arith)
-
--- Any other is no digit's.
-pub value-none : (c v : ℕ) → v ≡ valueOr16 (digit c) → 15 < v → digit c ≡ none
-value-none c v e h = go (digit c) refl e
-  where
-    go : (o : Option ℕ) → digit c ≡ o → v ≡ valueOr16 o → o ≡ none
-    go (some w) d f = absurd (omega (arith, digit-inv c w d .0))
-    go none d f = refl
+use Rattle.lines.proofs.Values.{digit-feed}
 
 -- ---- one step of the scan, at place i of a text
 
@@ -81,17 +42,18 @@ scan-cons-feed c (d ∷ t) e = rw (eq-eqb c 10 e)
 pub scan-feed : (T : List ℕ) (i : ℕ) → i < length T → getD T i 0 ≡ 10 → scan (drop i T) ≡ whole [] (drop (i + 1) T)
 scan-feed T i h e = rw (add-one, drop-cons T i 0) (scan-cons-feed (getD T i 0) (drop (suc i) T) e)
 
--- Nothing is left: no 0a closes the line.
-pub scan-end : (T : List ℕ) (i : ℕ) → length T ≤ i → scan (drop i T) ≡ bad
+-- One character is left at most, and it is no 0a.
+pub scan-stop : (T : List ℕ) (i : ℕ) → length T - i ≤ 1 → (i < length T → getD T i 0 ≡ 10 → ⊥) → scan (drop i T) ≡ bad
 unfolding scan
-scan-end T i h = rw (drop-of-length-le T h)
-
--- One character is left, and it is no 0a.
-pub scan-odd : (T : List ℕ) (i : ℕ) → i < length T → length T - i < 2 → (getD T i 0 ≡ 10 → ⊥) → scan (drop i T) ≡ bad
-unfolding scan
-scan-odd T i h k f =
-    let l : length T ≤ suc i = omega arith in
-    rw (drop-cons T i 0 h, drop-of-length-le T l, ne-eqb (getD T i 0) 10 f)
+scan-stop T i h f = go (decLt i (length T))
+  where
+    go : Dec (i < length T) → scan (drop i T) ≡ bad
+    go (yes k) =
+        let l : length T ≤ suc i = omega arith in
+        rw (drop-cons T i 0 k, drop-of-length-le T l, ne-eqb (getD T i 0) 10 (f k))
+    go (no k) =
+        let l : length T ≤ i = omega arith in
+        rw (drop-of-length-le T l)
 
 -- Two characters are left at least, and the first is no 0a: they are digits of a byte.
 pub scan-pair : (T : List ℕ) (i : ℕ) → i + 1 < length T → (getD T i 0 ≡ 10 → ⊥) → scan (drop i T) ≡ withByte (digit (getD T i 0)) (digit (getD T (i + 1) 0)) (scan (drop (i + 2) T))
@@ -102,13 +64,13 @@ scan-pair T i h f =
     let m : i + 2 ≡ suc (suc i) = omega arith in
     rw (m, add-one, drop-cons T i 0 k, drop-cons T (suc i) 0 l, ne-eqb (getD T i 0) 10 f)
 
--- A character that is no digit makes the line bad.
-pub first-bad : {o : Option ℕ} (l : Option ℕ) (s : Scanned) → o ≡ none → withByte o l s ≡ bad
-first-bad l s e = rw e
+-- The first of them is neither a digit nor a 0a.
+pub scan-first : (T : List ℕ) (i : ℕ) → i + 1 < length T → digit (getD T i 0) ≡ none → (i < length T → getD T i 0 ≡ 10 → ⊥) → scan (drop i T) ≡ bad
+scan-first T i h e f = scan-pair T i h (f (omega arith)) ∙ ap (λ o. withByte o (digit (getD T (i + 1) 0)) (scan (drop (i + 2) T))) e
 
-pub second-bad : {o : Option ℕ} (h : Option ℕ) (s : Scanned) → o ≡ none → withByte h o s ≡ bad
-second-bad none s e = refl
-second-bad (some h) s e = rw e
+-- The first is a digit, the second is none.
+pub scan-second : (T : List ℕ) (i v : ℕ) → i + 1 < length T → digit (getD T i 0) ≡ some v → digit (getD T (i + 1) 0) ≡ none → scan (drop i T) ≡ bad
+scan-second T i v h e f = scan-pair T i h (digit-feed (getD T i 0) v e) ∙ rw (e, f)
 
 -- ---- what the answer says
 
@@ -177,11 +139,16 @@ module _ {T F₀ F : List ℕ} {at used i n : ℕ} (room : 2 * used ≤ at) (tex
   pub decoded-bad : scan (drop i T) ≡ bad → Taken T (scan (drop at T)) at used F₀ F Bad
   decoded-bad e = taken-bad T (scan (drop at T)) at used F₀ F (d .rest ∙ ap (prepended (d .acc)) e) decoded-kept
 
+  -- The line has ended, or it is bad from i on.
+  pub decoded-closed : ((i < length T → getD T i 0 ≡ 10 → ⊥) → scan (drop i T) ≡ bad) → (r : Line) → Closed T i n r → Taken T (scan (drop at T)) at used F₀ F r
+  decoded-closed other (Whole m next) (e, f, h, g) = rw (e, f) (decoded-whole h g)
+  decoded-closed other Bad g = decoded-bad (other g)
+
   -- One byte more.
-  pub decoded-more : (h l : ℕ) → i + 1 < length T → (getD T i 0 ≡ 10 → ⊥) → digit (getD T i 0) ≡ some h → digit (getD T (i + 1) 0) ≡ some l
+  pub decoded-more : (h l : ℕ) → i + 1 < length T → digit (getD T i 0) ≡ some h → digit (getD T (i + 1) 0) ≡ some l
       → Decoded T F₀ (set F (used + n) (h * 16 + l)) at used (i + 2) (n + 1)
-  decoded-more h l k f a b =
-      let s : scan (drop i T) ≡ withByte (some h) (some l) (scan (drop (i + 2) T)) = rw (a, b) at (scan-pair T i k f) in
+  decoded-more h l k a b =
+      let s : scan (drop i T) ≡ withByte (some h) (some l) (scan (drop (i + 2) T)) = rw (a, b) at (scan-pair T i k (digit-feed (getD T i 0) h a)) in
       record {
         acc = d .acc ++ (h * 16 + l) ∷ [];
         long = rw length-append (omega (arith, d .long));

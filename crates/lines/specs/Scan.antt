@@ -3,9 +3,9 @@ use mathlib.Core.Path.{_≡_}
 use mathlib.Core.Bool.{Bool, true, false}
 use mathlib.Core.List.{List, [], _∷_, _++_}
 use mathlib.Core.Option.{Option, none, some}
-use Prim.Native.Nat.{ℕ, _+_, _*_, _≤_}
+use Prim.Native.Nat.{ℕ, _+_, _*_, _<_, _≤_}
 use lib.Dec.{eqb}
-use lib.ListN.{length, take, drop}
+use lib.ListN.{length, getD, take, drop}
 use Rattle.text.specs.Lines.{digit}
 use Rattle.lines.specs.declared.Line.{Line}
 use Rattle.lines.specs.declared.Line.the-variants.{Whole, Bad}
@@ -38,6 +38,10 @@ abbrev pub valueOr16 : Option ℕ → ℕ
 valueOr16 (some v) = v
 valueOr16 none = 16
 
+-- Each character's entry is its value.
+pub record Valued (vs : List ℕ) : Type 0 where
+  pub value : (c : ℕ) → c < 256 → getD vs c 0 ≡ valueOr16 (digit c)
+
 -- A whole line from `at` on, put into the bytes F from `used` on: how many bytes, and where the next line starts.
 pub record Put (T bs t : List ℕ) (at used n then : ℕ) (F F′ : List ℕ) : Type 0 where
   pub bytes : n ≡ length bs
@@ -50,6 +54,11 @@ pub record Put (T bs t : List ℕ) (at used n then : ℕ) (F F′ : List ℕ) : 
 pub record Kept (used : ℕ) (F F′ : List ℕ) : Type 0 where
   pub long : length F′ ≡ length F
   pub front : take used F′ ≡ take used F
+
+-- Whether the line ends at i: its 0a stands there, and the line has n bytes; or it does not.
+abbrev pub Closed : List ℕ → ℕ → ℕ → Line → Type 0
+Closed T i n (Whole m next) = (m ≡ n) × (next ≡ i + 1) × (i < length T) × (getD T i 0 ≡ 10)
+Closed T i n Bad = i < length T → getD T i 0 ≡ 10 → ⊥
 
 -- What taking a line answers, and what it does to the bytes.
 abbrev pub Taken : List ℕ → Scanned → ℕ → ℕ → List ℕ → List ℕ → Line → Type 0

@@ -2,8 +2,7 @@
 ghost use mathlib.Core.Path.{_≡_};
 ghost use Prim.Native.Nat.{_+_, _*_, _<_, _≤_};
 ghost use lib.ListN.{length, drop};
-ghost use Rattle.text.specs.Lines.{digit};
-ghost use Rattle.lines.specs.Scan.{scan, valueOr16, Taken};
+ghost use Rattle.lines.specs.Scan.{scan, Valued, Closed, Taken};
 
 // A line's number of bytes and where the next line starts; or a line that is no bytes.
 pub enum Line {
@@ -11,14 +10,44 @@ pub enum Line {
     Bad,
 }
 
-// The value of a lowercase hexadecimal digit, 16 for any other character.
-fn value(c: u8) -> u8
-    ensures { λ r. ⌜ r ≡ valueOr16 (digit c) ⌝ }
+// The value of each lowercase hexadecimal digit, 16 for any other character: made once a line,
+// since a constant array would be made again at each look.
+fn digit_values() -> [u8; 256]
+    ensures { λ r. ⌜ Valued r ⌝ }
 {
-    match c {
-        48..=57 | 97..=102 => c % 16 + c / 64 * 9,
-        _ => 16,
+    let mut values = [16u8; 256];
+    values[48] = 0;
+    values[49] = 1;
+    values[50] = 2;
+    values[51] = 3;
+    values[52] = 4;
+    values[53] = 5;
+    values[54] = 6;
+    values[55] = 7;
+    values[56] = 8;
+    values[57] = 9;
+    values[97] = 10;
+    values[98] = 11;
+    values[99] = 12;
+    values[100] = 13;
+    values[101] = 14;
+    values[102] = 15;
+    values
+}
+
+// The line that ends at i with n bytes, where its 0a stands there.
+fn ended(text: &[u8], i: usize, n: usize) -> Line
+    ensures { λ r. ⌜ Closed (now (text .entry)) i n r ⌝ }
+{
+    if i < text.len() {
+        if text[i] == 10 {
+            return Line::Whole {
+                bytes: n,
+                next: i + 1,
+            };
+        }
     }
+    Line::Bad
 }
 
 // Decodes the line of text that starts at `at` into frames from `used` on.
@@ -27,27 +56,21 @@ pub fn take_line(text: &[u8], at: usize, frames: &mut [u8], used: usize) -> Line
     requires { ⌜ (2 * used ≤ at) × (16384 ≤ length (now frames)) ⌝ }
     ensures { λ r. ⌜ Taken (now (text .entry)) (scan (drop at (now (text .entry)))) at used (now (frames .entry)) (now (frames .exit)) r ⌝ }
 {
+    let values = digit_values();
     let mut i = at;
     let mut n: usize = 0;
-    while i < text.len() {
-        let c = text[i];
-        if c == 10 {
-            return Line::Whole {
-                bytes: n,
-                next: i + 1,
-            };
+    while 1 < text.len() - i {
+        let h = values[text[i] as usize];
+        if 15 < h {
+            return ended(text, i, n);
         }
-        if text.len() - i < 2 {
-            return Line::Bad;
-        }
-        let h = value(c);
-        let l = value(text[i + 1]);
-        if 15 < h || 15 < l {
+        let l = values[text[i + 1] as usize];
+        if 15 < l {
             return Line::Bad;
         }
         frames[used + n] = h * 16 + l;
         i += 2;
         n += 1;
     }
-    Line::Bad
+    ended(text, i, n)
 }

@@ -1,103 +1,103 @@
 -- `take_line` meets its contract. The loop's invariant: the text before i is decoded. The measure is what is left of the text. Assumes nothing.
-use mathlib.Core.Path.{_∙_, refl}
+use mathlib.Core.Path.{refl}
 use mathlib.Core.List.{List, []}
 use Prim.Native.Nat.{ℕ, _+_, _-_}
 use native.Mathlib.Omega.{arith}
 use borrow.Author.Needs.{needs}
-use borrow.Author.Tests.{ltb-true, ltb-false}
-use mathlib.Core.Logic.{⊎-elim}
-use Rattle.text.specs.Lines.{digit}
-use Rattle.lines.specs.Scan.{scan}
-use lib.ListN.{length, getD, drop}
+use lib.ListN.{length, getD}
 use Rattle.lines.proofs.Scan as law
 use Rattle.lines.proofs.Scan.{Decoded}
+use Rattle.lines.proofs.Values.{value-digit, value-none}
 use Rattle.lines.proofs.take_line.Statement.{statement}
 use Rattle.lines.proofs.take_line.Tie as tie
 
 abbrev Inv-loop : tie.InvT-loop
-Inv-loop text at frames₀ used i₀ n₀ frames i n = Decoded text frames₀ frames at used i n
+Inv-loop text at frames₀ used values i₀ n₀ frames i n = Decoded text frames₀ frames at used i n
 
 abbrev μ-loop : tie.MeasureT-loop
-μ-loop text at frames₀ used i₀ n₀ frames i n = length text - i
+μ-loop text at frames₀ used values i₀ n₀ frames i n = length text - i
+
+digit-values-requires : tie.Need-digit-values-requires Inv-loop μ-loop
+digit-values-requires c κs = search needs
 
 loop-holds : tie.Need-loop-holds Inv-loop μ-loop
 loop-holds c =
-    let a = c .before .before .args in
+    let a = c .before .before .before .args in
     record { acc = []; long = refl; place = omega arith; inside = omega arith; bytes = law.filled-none (a .frames .now) (a .used); rest = law.prepended-none _ }
 
-shared-slice-read-c : tie.Need-shared-slice-read-c Inv-loop μ-loop
-shared-slice-read-c c = search needs
+sub-loop : tie.Need-sub-loop Inv-loop μ-loop
+sub-loop c = c .loop .inv .inside
 
-add-t14 : tie.Need-add-t14 Inv-loop μ-loop
-add-t14 c = search needs
+shared-slice-read-h : tie.Need-shared-slice-read-h Inv-loop μ-loop
+shared-slice-read-h c = search needs
+
+cast-h : tie.Need-cast-h Inv-loop μ-loop
+cast-h c = search (needs, c .shared-slice-known2 .given (c .before .before .loop .i))
+
+array-read-h : tie.Need-array-read-h Inv-loop μ-loop
+array-read-h c = omega (arith, c .shared-slice-known2 .given (c .before .before .loop .i))
+
+ended-requires : tie.Need-ended-requires Inv-loop μ-loop
+ended-requires c κs = search needs
 
 same-length : tie.Need-same-length Inv-loop μ-loop
 same-length c =
-    let p = c .before .before .before .before .before .before .pre in
-    law.decoded-kept (p .1 .0) (p .0 .1) (p .1 .1) (c .before .before .before .loop .inv) .long
+    let p = c .before .before .before .before .before .before .before .before .pre in
+    law.decoded-kept (p .1 .0) (p .0 .1) (p .1 .1) (c .before .before .before .before .loop .inv) .long
 
 returns : tie.Need-returns Inv-loop μ-loop
 returns c =
-    let p = c .before .before .before .before .before .before .pre in
-    law.decoded-whole (p .1 .0) (p .0 .1) (p .1 .1) (c .before .before .before .loop .inv) (c .before .before .loop-test .taken) (c .if1 .taken)
+    let t = c .before .before .before .before .before .digit-values in
+    let W : List ℕ = t .result in
+    let l = c .before .before .before .before .loop in
+    let p = c .before .before .before .before .before .before .before .before .pre in
+    let T : List ℕ = c .before .before .before .before .before .before .before .before .args .text .now in
+    let i : ℕ = l .i in
+    let v = value-none W (getD T i 0) (t .ensures) (omega (arith, c .before .before .shared-slice-known2 .given i)) (c .before .if1 .taken) in
+    law.decoded-closed (p .1 .0) (p .0 .1) (p .1 .1) (l .inv) (law.scan-first T i (omega arith) v) (c .ended .result) (c .ended .ensures)
 
-sub-if2 : tie.Need-sub-if2 Inv-loop μ-loop
-sub-if2 c = search needs
+add-l : tie.Need-add-l Inv-loop μ-loop
+add-l c = search needs
+
+shared-slice-read-l : tie.Need-shared-slice-read-l Inv-loop μ-loop
+shared-slice-read-l c = search needs
+
+cast-l : tie.Need-cast-l Inv-loop μ-loop
+cast-l c = search (needs, c .shared-slice-known3 .given (c .before .before .before .before .loop .i + 1))
+
+array-read-l : tie.Need-array-read-l Inv-loop μ-loop
+array-read-l c = omega (arith, c .shared-slice-known3 .given (c .before .before .before .before .loop .i + 1))
 
 same-length-2 : tie.Need-same-length-2 Inv-loop μ-loop
 same-length-2 c =
-    let p = c .before .before .before .before .before .before .before .pre in
-    law.decoded-kept (p .1 .0) (p .0 .1) (p .1 .1) (c .before .before .before .before .loop .inv) .long
+    let p = c .before .before .before .before .before .before .before .before .before .pre in
+    law.decoded-kept (p .1 .0) (p .0 .1) (p .1 .1) (c .before .before .before .before .before .loop .inv) .long
 
 returns-2 : tie.Need-returns-2 Inv-loop μ-loop
 returns-2 c =
-    let l = c .before .before .before .before .loop in
-    let p = c .before .before .before .before .before .before .before .pre in
-    law.decoded-bad (p .1 .0) (p .0 .1) (p .1 .1) (l .inv) (law.scan-odd (c .before .before .before .before .before .before .before .args .text .now) (l .i) (c .before .before .before .loop-test .taken) (c .if2 .taken) (c .before .if1 .left))
-
-value-requires : tie.Need-value-requires Inv-loop μ-loop
-value-requires c κs = search needs
-
-add-value : tie.Need-add-value Inv-loop μ-loop
-add-value c = search needs
-
-shared-slice-read-value : tie.Need-shared-slice-read-value Inv-loop μ-loop
-shared-slice-read-value c = search needs
-
-value-requires-2 : tie.Need-value-requires-2 Inv-loop μ-loop
-value-requires-2 c κs = search needs
-
-same-length-3 : tie.Need-same-length-3 Inv-loop μ-loop
-same-length-3 c =
-    let p = c .before .before .before .before .before .before .before .before .before .before .before .pre in
-    law.decoded-kept (p .1 .0) (p .0 .1) (p .1 .1) (c .before .before .before .before .before .before .before .before .loop .inv) .long
-
-returns-3 : tie.Need-returns-3 Inv-loop μ-loop
-returns-3 c =
-    let l = c .before .before .before .before .before .before .before .before .loop in
-    let p = c .before .before .before .before .before .before .before .before .before .before .before .pre in
-    let T : List ℕ = c .before .before .before .before .before .before .before .before .before .before .before .args .text .now in
+    let t = c .before .before .before .before .before .before .digit-values in
+    let W : List ℕ = t .result in
+    let l = c .before .before .before .before .before .loop in
+    let p = c .before .before .before .before .before .before .before .before .before .pre in
+    let T : List ℕ = c .before .before .before .before .before .before .before .before .before .args .text .now in
     let i : ℕ = l .i in
-    let s = law.scan-pair T i (omega arith) (c .before .before .before .before .before .if1 .left) in
-    law.decoded-bad (p .1 .0) (p .0 .1) (p .1 .1) (l .inv)
-    (s ∙ ⊎-elim
-    (λ w. law.first-bad (digit (getD T (i + 1) 0)) (scan (drop (i + 2) T)) (law.value-none (getD T i 0) (c .before .before .before .value .result) (c .before .before .before .value .ensures) (w .taken)))
-    (λ w. law.second-bad (digit (getD T i 0)) (scan (drop (i + 2) T)) (law.value-none (getD T (i + 1) 0) (c .before .value2 .result) (c .before .value2 .ensures) (ltb-true 15 _ (w .1 .taken))))
-    (c .if3 .came))
+    let h = value-digit W (getD T i 0) (t .ensures) (omega (arith, c .before .before .before .shared-slice-known2 .given i)) (c .before .before .if1 .left) in
+    let v = value-none W (getD T (i + 1) 0) (t .ensures) (omega (arith, c .before .shared-slice-known3 .given (i + 1))) (c .if2 .taken) in
+    law.decoded-bad (p .1 .0) (p .0 .1) (p .1 .1) (l .inv) (law.scan-second T i (getD W (getD T i 0) 0) (omega arith) h v)
 
 mul-frames : tie.Need-mul-frames Inv-loop μ-loop
 mul-frames c = search needs
 
 add-frames : tie.Need-add-frames Inv-loop μ-loop
-add-frames c = omega (arith, ltb-false 15 (c .before .before .value2 .result) (c .if4 .left))
+add-frames c = search needs
 
 add-frames-2 : tie.Need-add-frames-2 Inv-loop μ-loop
 add-frames-2 c = search needs
 
 slice-write-frames : tie.Need-slice-write-frames Inv-loop μ-loop
 slice-write-frames c =
-    let l = c .before .before .before .before .before .before .before .before .before .loop in
-    let p = c .before .before .before .before .before .before .before .before .before .before .before .before .pre in
+    let l = c .before .before .before .before .before .loop in
+    let p = c .before .before .before .before .before .before .before .before .before .pre in
     omega (arith, law.decoded-kept (p .1 .0) (p .0 .1) (p .1 .1) (l .inv) .long, l .inv .place)
 
 add-i : tie.Need-add-i Inv-loop μ-loop
@@ -111,24 +111,31 @@ loop-less c = search needs
 
 loop-again : tie.Need-loop-again Inv-loop μ-loop
 loop-again c =
-    let l = c .before .before .before .before .before .before .before .before .before .loop in
-    let p = c .before .before .before .before .before .before .before .before .before .before .before .before .pre in
-    let T : List ℕ = c .before .before .before .before .before .before .before .before .before .before .before .before .args .text .now in
+    let t = c .before .before .before .before .before .before .digit-values in
+    let W : List ℕ = t .result in
+    let l = c .before .before .before .before .before .loop in
+    let p = c .before .before .before .before .before .before .before .before .before .pre in
+    let T : List ℕ = c .before .before .before .before .before .before .before .before .before .args .text .now in
     let i : ℕ = l .i in
-    law.decoded-more (p .1 .0) (p .0 .1) (p .1 .1) (l .inv) (c .before .before .before .before .value .result) (c .before .before .value2 .result) (omega arith) (c .before .before .before .before .before .before .if1 .left)
-    (law.value-digit (getD T i 0) (c .before .before .before .before .value .result) (c .before .before .before .before .value .ensures) (c .before .if3 .left))
-    (law.value-digit (getD T (i + 1) 0) (c .before .before .value2 .result) (c .before .before .value2 .ensures) (ltb-false 15 _ (c .if4 .left)))
+    let h = value-digit W (getD T i 0) (t .ensures) (omega (arith, c .before .before .before .shared-slice-known2 .given i)) (c .before .before .if1 .left) in
+    let v = value-digit W (getD T (i + 1) 0) (t .ensures) (omega (arith, c .before .shared-slice-known3 .given (i + 1))) (c .if2 .left) in
+    law.decoded-more (p .1 .0) (p .0 .1) (p .1 .1) (l .inv) (getD W (getD T i 0) 0) (getD W (getD T (i + 1) 0) 0) (omega arith) h v
 
-same-length-4 : tie.Need-same-length-4 Inv-loop μ-loop
-same-length-4 c =
-    let p = c .before .before .before .before .pre in
-    law.decoded-kept (p .1 .0) (p .0 .1) (p .1 .1) (c .before .loop .inv) .long
+ended-requires-2 : tie.Need-ended-requires-2 Inv-loop μ-loop
+ended-requires-2 c κs = search needs
 
-returns-4 : tie.Need-returns-4 Inv-loop μ-loop
-returns-4 c =
-    let l = c .before .loop in
-    let p = c .before .before .before .before .pre in
-    law.decoded-bad (p .1 .0) (p .0 .1) (p .1 .1) (l .inv) (law.scan-end (c .before .before .before .before .args .text .now) (l .i) (c .loop-test .left))
+same-length-3 : tie.Need-same-length-3 Inv-loop μ-loop
+same-length-3 c =
+    let p = c .before .before .before .before .before .before .pre in
+    law.decoded-kept (p .1 .0) (p .0 .1) (p .1 .1) (c .before .before .loop .inv) .long
+
+returns-3 : tie.Need-returns-3 Inv-loop μ-loop
+returns-3 c =
+    let l = c .before .before .loop in
+    let p = c .before .before .before .before .before .before .pre in
+    let T : List ℕ = c .before .before .before .before .before .before .args .text .now in
+    let i : ℕ = l .i in
+    law.decoded-closed (p .1 .0) (p .0 .1) (p .1 .1) (l .inv) (law.scan-stop T i (omega arith)) (c .ended2 .result) (c .ended2 .ensures)
 
 pub take-line-spec : {M : Type 1} → statement M
 take-line-spec =
@@ -136,20 +143,21 @@ take-line-spec =
     (tie.spec
     Inv-loop
     μ-loop
+    digit-values-requires
     loop-holds
-    shared-slice-read-c
-    add-t14
+    sub-loop
+    shared-slice-read-h
+    cast-h
+    array-read-h
+    ended-requires
     same-length
     returns
-    sub-if2
+    add-l
+    shared-slice-read-l
+    cast-l
+    array-read-l
     same-length-2
     returns-2
-    value-requires
-    add-value
-    shared-slice-read-value
-    value-requires-2
-    same-length-3
-    returns-3
     mul-frames
     add-frames
     add-frames-2
@@ -158,5 +166,6 @@ take-line-spec =
     add-n
     loop-less
     loop-again
-    same-length-4
-    returns-4)
+    ended-requires-2
+    same-length-3
+    returns-3)
