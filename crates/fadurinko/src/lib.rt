@@ -52,7 +52,7 @@ pub fn word(text: &[u8], tree: &[u8], room: &mut [u8]) -> Found
 {
     let mut frames = [0u8; 16448];
     let mut index = [0u64; 4096];
-    let opening = table::open(text, &mut frames, &mut index);
+    let opening = table::read(text, &mut frames, &mut index);
     let Opening::Table(head) = opening else {
         return refused(opening);
     };

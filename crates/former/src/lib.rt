@@ -49,7 +49,7 @@ pub fn judge(text: &[u8]) -> Judged
 {
     let mut frames = [0u8; 16448];
     let mut index = [0u64; 4096];
-    let opening = table::open(text, &mut frames, &mut index);
+    let opening = table::read(text, &mut frames, &mut index);
     let Opening::Table(head) = opening else {
         return text_refusal(opening);
     };
@@ -112,7 +112,7 @@ pub fn form(text: &[u8], room: &mut [u8]) -> Formed
 {
     let mut frames = [0u8; 16448];
     let mut index = [0u64; 4096];
-    let opening = table::open(text, &mut frames, &mut index);
+    let opening = table::read(text, &mut frames, &mut index);
     let Opening::Table(head) = opening else {
         return open_refusal(opening);
     };

@@ -3,7 +3,7 @@ use mathlib.Core.Path.{_≡_, refl, sym, ap, _∙_}
 use mathlib.Core.List.{List, [], _++_}
 use Prim.Native.Nat.{ℕ, zero, suc}
 use native.Mathlib.Omega.{arith}
-use lib.ListN.{length, getD, drop, replicate, take-append-drop}
+use lib.ListN.{length, getD, drop, replicate, length-replicate, take-append-drop}
 use Rattle.words.specs.Reply.{Reply, given, refused}
 use Rattle.machine.specs.Machine.{Table}
 use Rattle.text.specs.Frames as text
@@ -18,7 +18,7 @@ use Rattle.frames.specs.Staged.{Staged, numberOf}
 use Rattle.frames.specs.declared.Stage.{Stage}
 use Rattle.frames.specs.declared.Next.{Next}
 use Rattle.frames.specs.declared.Next.the-variants as next
-use Rattle.table.specs.Opening.{BlankFrom, Opens, Unchanged}
+use Rattle.table.specs.Opening.{Blank, BlankFrom, Opens, Unchanged}
 use Rattle.table.specs.declared.Opening.{Opening}
 use Rattle.table.specs.declared.Opening.the-variants as opening
 
@@ -71,10 +71,10 @@ blank-at zero i = refl
 blank-at (suc n) zero = refl
 blank-at (suc n) (suc i) = blank-at n i
 
--- From the first place on.
-pub blank-from : (n : ℕ) → BlankFrom (replicate n 0) 0
-blank-from n i h = blank-at n i
+-- What the code makes of 0 alone is blank.
+pub blank-made : Blank (replicate framesSize 0) (replicate indexSize 0)
+blank-made = record { bytes = length-replicate {A = ℕ} framesSize 0; entries = length-replicate {A = ℕ} indexSize 0; frames = blank-at framesSize; index = blank-at indexSize }
 
--- Such an index holds the entries of no rows.
-pub blank-indexed : (n : ℕ) → Indexed (replicate n 0) 0 []
-blank-indexed n = indexed-none (replicate n 0) 0 (blank-at n)
+-- A blank index holds the entries of no rows.
+pub blank-indexed : (F I : List ℕ) → Blank F I → Indexed I 0 []
+blank-indexed F I b = indexed-none I 0 (b .index)

@@ -5,7 +5,7 @@ use layout::Head;
 use layout::Refusal;
 use lines::Line;
 ghost use mathlib.Core.Path.{_≡_};
-ghost use mathlib.Core.List.{List, []};
+ghost use mathlib.Core.List.{List};
 ghost use Prim.Native.Nat.{ℕ, _+_, _*_, _<_, _≤_};
 ghost use lib.ListN.{length};
 ghost use Rattle.words.specs.Reply.{given};
@@ -14,9 +14,8 @@ ghost use Rattle.text.specs.Frames as text;
 ghost use Rattle.text.specs.Reading as reading;
 ghost use Rattle.text.specs.Reading.{readTable};
 ghost use Rattle.text.specs.Writing.{Limited};
-ghost use Rattle.layout.specs.Layout.{Indexed};
 ghost use Rattle.frames.specs.Staged.{Staged};
-ghost use Rattle.table.specs.Opening.{BlankFrom, Opens, Unchanged};
+ghost use Rattle.table.specs.Opening.{Blank, BlankFrom, Opens, Unchanged};
 
 // An opened table's numbers, or the refusal.
 pub enum Opening {
@@ -46,7 +45,7 @@ fn finish(st: Stage, place: usize) -> Opening
 // Reads the lines of a text in turn into blank bytes and a blank index; the first faulty line answers.
 fn read_lines(text: &[u8], bytes: &mut [u8], index: &mut [u64]) -> Opening
     requires { ⌜ (1 ≤ length (now text)) × (length (now text) ≤ 32768) ⌝ }
-    requires { ⌜ (length (now bytes) ≡ 16448) × (length (now index) ≡ 4096) × BlankFrom (now bytes) 0 × Indexed (now index) 0 [] ⌝ }
+    requires { ⌜ Blank (now bytes) (now index) ⌝ }
     ensures { λ r. ⌜ Opens (now (bytes .exit)) (now (index .exit)) (readTable (now (text .entry))) r ⌝ }
 {
     let mut st = frames::start();
@@ -67,18 +66,27 @@ fn read_lines(text: &[u8], bytes: &mut [u8], index: &mut [u64]) -> Opening
     finish(st, at)
 }
 
+// Reads a table text, any bytes, into blank bytes and a blank index, which become the opened table.
+// Where the text is refused, what was read before the fault stays in them.
+pub fn read(text: &[u8], bytes: &mut [u8], index: &mut [u64]) -> Opening
+    requires { ⌜ Blank (now bytes) (now index) ⌝ }
+    ensures { λ r. ⌜ Opens (now (bytes .exit)) (now (index .exit)) (readTable (now (text .entry))) r ⌝ }
+{
+    if text.len() == 0 || 32768 < text.len() {
+        return refuse(1, 0);
+    }
+    read_lines(text, bytes, index)
+}
+
 // Opens a table text: any bytes. The lent bytes and entries become the opened table; where the text
 // is refused they are as they were.
 pub fn open(text: &[u8], bytes: &mut [u8; 16448], index: &mut [u64; 4096]) -> Opening
     ensures { λ r. ⌜ Opens (now (bytes .exit)) (now (index .exit)) (readTable (now (text .entry))) r ⌝ }
     ensures { λ r. ⌜ Unchanged (now (bytes .entry)) (now (index .entry)) (now (bytes .exit)) (now (index .exit)) r ⌝ }
 {
-    if text.len() == 0 || 32768 < text.len() {
-        return refuse(1, 0);
-    }
     let mut own_bytes = [0u8; 16448];
     let mut own_index = [0u64; 4096];
-    let opening = read_lines(text, &mut own_bytes, &mut own_index);
+    let opening = read(text, &mut own_bytes, &mut own_index);
     let Opening::Table(head) = opening else {
         return opening;
     };

@@ -1,11 +1,18 @@
 -- `form` meets its contract: the refusal of the text or of the judgement, or what forming the opened table answers. Assumes nothing.
 use Rattle.former.proofs.Readings.{opening-long, refused-answers, judged-answers, form-answers}
+use Rattle.table.proofs.Ends.{blank-made}
 use borrow.Author.Needs.{needs}
 use Rattle.former.proofs.form.Statement.{statement}
 use Rattle.former.proofs.form.Tie as tie
 
-open-requires : tie.Need-open-requires
-open-requires c κs = search needs
+slice-aggregate-read : tie.Need-slice-aggregate-read
+slice-aggregate-read c = search needs
+
+slice-aggregate-read-2 : tie.Need-slice-aggregate-read-2
+slice-aggregate-read-2 c = search needs
+
+read-requires : tie.Need-read-requires
+read-requires c κs = blank-made
 
 enum-known-opening : tie.Need-enum-known-opening
 enum-known-opening c = search needs
@@ -18,19 +25,19 @@ open-refusal-requires c κs = search needs
 
 returns : tie.Need-returns
 returns c =
-    let p = c .before .before .before in
-    let o = p .«open» in
+    let p = c .before .before .before .before .before in
+    let o = p .read in
     let a = p .before .before .before .before .before .args in
     let t = c .before .enum-told .given in
-    refused-answers (o .last .1 .0) (o .last .1 .1 .0) (a .text .now) (a .room .now) (o .result) (t .0 .0) (c .open-refusal .result) (t .1) (o .ensures .0) (c .open-refusal .ensures)
+    refused-answers (o .last .1 .0) (o .last .1 .1 .0) (a .text .now) (a .room .now) (o .result) (t .0 .0) (c .open-refusal .result) (t .1) (o .ensures) (c .open-refusal .ensures)
 
 slice-aggregate-judge-opened : tie.Need-slice-aggregate-judge-opened
 slice-aggregate-judge-opened c =
-    let p = c .before .before .before .before in
-    let o = p .«open» in
+    let p = c .before .before .before .before .before .before in
+    let o = p .read in
     let a = p .before .before .before .before .before .args in
     let t = c .before .before .opening .given in
-    opening-long (o .last .1 .0) (o .last .1 .1 .0) (a .text .now) (o .result) (t .0 .0) (t .1) (o .ensures .0) .0
+    opening-long (o .last .1 .0) (o .last .1 .1 .0) (a .text .now) (o .result) (t .0 .0) (t .1) (o .ensures) .0
 
 judge-opened-requires : tie.Need-judge-opened-requires
 judge-opened-requires c κs = search needs
@@ -46,8 +53,8 @@ late-refusal-requires c κs = search needs
 
 returns-2 : tie.Need-returns-2
 returns-2 c =
-    let p = c .before .before .before .before .before .before .before .before in
-    let o = p .«open» in
+    let p = c .before .before .before .before .before .before .before .before .before .before in
+    let o = p .read in
     let a = p .before .before .before .before .before .args in
     let t = c .before .before .before .before .before .before .opening .given in
     let j = c .before .before .before .judge-opened in
@@ -63,26 +70,26 @@ returns-2 c =
     (l .0 .0)
     (c .late-refusal .result)
     (t .1)
-    (o .ensures .0)
+    (o .ensures)
     (j .ensures)
     (l .1)
     (c .late-refusal .ensures)
 
 slice-aggregate-form-opened : tie.Need-slice-aggregate-form-opened
 slice-aggregate-form-opened c =
-    let p = c .before .before .before .before .before .before .before .before in
-    let o = p .«open» in
+    let p = c .before .before .before .before .before .before .before .before .before .before in
+    let o = p .read in
     let a = p .before .before .before .before .before .args in
     let t = c .before .before .before .before .before .before .opening .given in
-    opening-long (o .last .1 .0) (o .last .1 .1 .0) (a .text .now) (o .result) (t .0 .0) (t .1) (o .ensures .0) .0
+    opening-long (o .last .1 .0) (o .last .1 .1 .0) (a .text .now) (o .result) (t .0 .0) (t .1) (o .ensures) .0
 
 slice-aggregate-form-opened-2 : tie.Need-slice-aggregate-form-opened-2
 slice-aggregate-form-opened-2 c =
-    let p = c .before .before .before .before .before .before .before .before .before in
-    let o = p .«open» in
+    let p = c .before .before .before .before .before .before .before .before .before .before .before in
+    let o = p .read in
     let a = p .before .before .before .before .before .args in
     let t = c .before .before .before .before .before .before .before .opening .given in
-    opening-long (o .last .1 .0) (o .last .1 .1 .0) (a .text .now) (o .result) (t .0 .0) (t .1) (o .ensures .0) .1
+    opening-long (o .last .1 .0) (o .last .1 .1 .0) (a .text .now) (o .result) (t .0 .0) (t .1) (o .ensures) .1
 
 form-opened-requires : tie.Need-form-opened-requires
 form-opened-requires c κs = search needs
@@ -96,13 +103,13 @@ returns-3 c =
     let earliest = formed .before .before .before .before in
     let judged = earliest .before .before in
     let told = judged .before .before .before in
-    let opened = told .before .before in
+    let opened = told .before .before .before .before in
     let a = opened .before .before .before .before .before .args in
     let f = formed .form-opened in
     let l = earliest .enum-told2 .given in
     let j = judged .judge-opened in
     let t = told .opening .given in
-    let o = opened .«open» in
+    let o = opened .read in
     form-answers
     (o .last .1 .0)
     (o .last .1 .1 .0)
@@ -114,7 +121,7 @@ returns-3 c =
     (j .result)
     (f .result)
     (t .1)
-    (o .ensures .0)
+    (o .ensures)
     (j .ensures)
     (l .1)
     (f .ensures)
@@ -123,7 +130,9 @@ pub form-spec : {M : Type 1} → statement M
 form-spec =
     tie.close
     (tie.spec
-    open-requires
+    slice-aggregate-read
+    slice-aggregate-read-2
+    read-requires
     enum-known-opening
     enum-told
     open-refusal-requires

@@ -24,7 +24,7 @@ start-requires c κs = search needs
 loop-holds : tie.Need-loop-holds Inv-loop μ-loop
 loop-holds c =
     let p = c .before .before .before .before .pre in
-    going-begin _ _ _ _ (p .0 .0) (p .0 .1) (p .1 .0) (p .1 .1) (p .1 .2) (c .start .ensures .0 _ _ (p .1 .3)) (c .start .ensures .1)
+    going-begin _ _ _ _ (p .0 .0) (p .0 .1) (p .1 .bytes) (p .1 .entries) (λ i h. p .1 .frames i) (c .start .ensures .0 _ _ (law.blank-indexed _ _ (p .1))) (c .start .ensures .1)
 
 next-line-requires : tie.Need-next-line-requires Inv-loop μ-loop
 next-line-requires c κs =
@@ -52,12 +52,12 @@ spoiled k =
 same-length : tie.Need-same-length Inv-loop μ-loop
 same-length c =
     let g = c .before .before .before .before .before .before .before .before .loop .inv in
-    spoiled (c .before) .1 .long ∙ g .bytes ∙ sym (c .before .before .before .before .before .before .before .before .before .before .before .before .before .pre .1 .0)
+    spoiled (c .before) .1 .long ∙ g .bytes ∙ sym (c .before .before .before .before .before .before .before .before .before .before .before .before .before .pre .1 .bytes)
 
 same-length-2 : tie.Need-same-length-2 Inv-loop μ-loop
 same-length-2 c =
     let g = c .before .before .before .before .before .before .before .before .loop .inv in
-    g .entries ∙ sym (c .before .before .before .before .before .before .before .before .before .before .before .before .before .pre .1 .1)
+    g .entries ∙ sym (c .before .before .before .before .before .before .before .before .before .before .before .before .before .pre .1 .entries)
 
 returns : tie.Need-returns Inv-loop μ-loop
 returns c =
@@ -95,10 +95,10 @@ same-length-3 : tie.Need-same-length-3 Inv-loop μ-loop
 same-length-3 c =
     let g = c .before .before .before .before .before .before .before .before .before .before .before .before .before .before .before .before .before .loop .inv in
     let w = taken (c .before .before .before .before .before .before .before .before .before) in
-    line-bytes g w (c .before .before .before .before .before .before .before .before .before .before .before .before .before .before .before .before .before .before .before .before .before .before .pre .0 .1) ∙ sym (c .before .before .before .before .before .before .before .before .before .before .before .before .before .before .before .before .before .before .before .before .before .before .pre .1 .0)
+    line-bytes g w (c .before .before .before .before .before .before .before .before .before .before .before .before .before .before .before .before .before .before .before .before .before .before .pre .0 .1) ∙ sym (c .before .before .before .before .before .before .before .before .before .before .before .before .before .before .before .before .before .before .before .before .before .before .pre .1 .bytes)
 
 same-length-4 : tie.Need-same-length-4 Inv-loop μ-loop
-same-length-4 c = c .before .before .before .before .before .before .step .ensures .1 ∙ sym (c .before .before .before .before .before .before .before .before .before .before .before .before .before .before .before .before .before .before .before .before .before .before .pre .1 .1)
+same-length-4 c = c .before .before .before .before .before .before .step .ensures .1 ∙ sym (c .before .before .before .before .before .before .before .before .before .before .before .before .before .before .before .before .before .before .before .before .before .before .pre .1 .entries)
 
 returns-2 : tie.Need-returns-2 Inv-loop μ-loop
 returns-2 c =
@@ -130,12 +130,12 @@ finish-requires c κs = search needs
 same-length-5 : tie.Need-same-length-5 Inv-loop μ-loop
 same-length-5 c =
     let g = c .before .before .loop .inv in
-    g .bytes ∙ sym (c .before .before .before .before .before .before .before .pre .1 .0)
+    g .bytes ∙ sym (c .before .before .before .before .before .before .before .pre .1 .bytes)
 
 same-length-6 : tie.Need-same-length-6 Inv-loop μ-loop
 same-length-6 c =
     let g = c .before .before .loop .inv in
-    g .entries ∙ sym (c .before .before .before .before .before .before .before .pre .1 .1)
+    g .entries ∙ sym (c .before .before .before .before .before .before .before .pre .1 .entries)
 
 returns-3 : tie.Need-returns-3 Inv-loop μ-loop
 returns-3 c =
