@@ -1,7 +1,7 @@
 -- What a round does, and what its parts answer. Definitions only.
 use mathlib.Core.Path.{_≡_}
 use mathlib.Core.List.{List, [], _∷_}
-use Prim.Native.Nat.{ℕ, zero, suc, _+_, _-_, _<_, _≤_}
+use Prim.Native.Nat.{ℕ, zero, suc, _+_, _-_, _/_, _%_, _<_, _≤_}
 use lib.ListN.{length, getD}
 use Rattle.machine.specs.Machine.{Rule, Table}
 use Rattle.machine.specs.Twins.{Rests, Match}
@@ -30,6 +30,25 @@ RestsAt F rep (suc k) x y =
 -- The two rules have equal words in turn, and children in one class each.
 abbrev pub SameRule : List ℕ → Rule → Rule → Type 0
 SameRule rep a b = (a .first ≡ b .first) × Rests (Alike rep) (a .rest) (b .rest)
+
+-- The rows of q and r match up to their children's states: the same rules are there, with the same words in turn and as many children.
+abbrev pub Shaped : Table → ℕ → ℕ → Type 0
+Shaped M q r = Match M M (λ p s. Unit {0}) q r
+
+-- So do those of states in one class, of the first n: what the first round leaves, and every round keeps.
+abbrev pub Shapes : Table → ℕ → List ℕ → Type 0
+Shapes M n rep = (q r : ℕ) → q < n → r < n → Alike rep q r → Shaped M q r
+
+-- The states in the three lowest places, of six bits each, are in one class, each in turn.
+pub record LaterAlike (rep : List ℕ) (x y : ℕ) : Type 0 where
+  pub last : Alike rep (x % 64) (y % 64)
+  pub second-last : Alike rep (x / 64 % 64) (y / 64 % 64)
+  pub third-last : Alike rep (x / 4096 % 64) (y / 4096 % 64)
+
+-- The children's states in two entries of the index are in one class, each in turn: the first child's stands from bit 22 on, the others' from bit 36 on.
+pub record KidsAlike (rep : List ℕ) (x y : ℕ) : Type 0 where
+  pub first : Alike rep (x / 4194304 % 64) (y / 4194304 % 64)
+  pub later : LaterAlike rep (x / 68719476736) (y / 68719476736)
 
 -- A round leaves q and r in one class: they are in one, and their rows match up to the classes.
 pub record Paired (M : Table) (rep : List ℕ) (q r : ℕ) : Type 0 where

@@ -12,6 +12,7 @@ ghost use Rattle.layout.specs.Layout.{Opened};
 ghost use Rattle.classes.specs.Classes.{Classes, Numbered};
 ghost use Rattle.classes.specs.Rounds.{Meant, Alike, Leads, Picked, Low, Raised, Rounded, Put, Adopted};
 
+mod children;
 mod rules;
 
 // Whether r stands for its class in the new round, and the round leaves q with it.

@@ -1,0 +1,32 @@
+-- `same_later` meets its contract: the three places are compared in turn.
+use borrow.Author.Needs.{needs}
+use borrow.Author.Tests.{not-true, not-false}
+use Rattle.words.proofs.Told.{told-no, told-map}
+use Rattle.classes.proofs.children.same_later.Statement.{statement}
+use Rattle.classes.proofs.children.same_later.Tie as tie
+
+alike-requires : tie.Need-alike-requires
+alike-requires c κs = search needs
+
+returns : tie.Need-returns
+returns c = told-no (λ h. c .before .alike .ensures .if-false (not-true _ (c .if1 .taken)) (h .last))
+
+alike-requires-2 : tie.Need-alike-requires-2
+alike-requires-2 c κs = search needs
+
+returns-2 : tie.Need-returns-2
+returns-2 c = told-no (λ h. c .before .alike2 .ensures .if-false (not-true _ (c .if2 .taken)) (h .second-last))
+
+alike-requires-3 : tie.Need-alike-requires-3
+alike-requires-3 c κs = search needs
+
+returns-3 : tie.Need-returns-3
+returns-3 c =
+    let a = c .before .before .before .before .alike .ensures .if-true (not-false _ (c .before .before .before .if1 .left)) in
+    let b = c .before .before .alike2 .ensures .if-true (not-false _ (c .before .if2 .left)) in
+    told-map (λ h. record { last = a; second-last = b; third-last = h }) (λ h. h .third-last) (c .alike3 .ensures)
+
+pub same-later-spec : {M : Type 1} → statement M
+same-later-spec =
+    tie.close
+    (tie.spec alike-requires returns alike-requires-2 returns-2 alike-requires-3 returns-3)
