@@ -13,7 +13,7 @@ use Rattle.machine.proofs.Agreement.{agree}
 use Rattle.machine.proofs.Kept.{rules-map}
 use Rattle.machine.proofs.Twins.{Two, match-two, classes}
 use Rattle.classes.specs.Classes.{Classes}
-use Rattle.classes.specs.Rounds.{Alike, Paired, Least, Rounded, Adopted}
+use Rattle.classes.specs.Rounds.{Alike, Paired, Shapes, Least, Rounded, Adopted}
 use Rattle.classes.proofs.Pairs.{paired-refl, least-same, same-least}
 
 -- States with the same words are in one class.
@@ -23,6 +23,12 @@ Together M rep = (q r : ℕ) → q < M .states → r < M .states → Same M M q 
 -- All in one class.
 pub together-none : (M : Table) (rep : List ℕ) → ((q : ℕ) → getD rep q 0 ≡ 0) → Together M rep
 together-none M rep z q r hq hr e = z q ∙ sym (z r)
+
+-- States that a round leaves together have rules with the same words, and as many children.
+pub shapes-more : (M : Table) {n k : ℕ} {rep next rep′ : List ℕ} → Rounded M n rep next → Adopted n next rep rep′ k → Shapes M n rep′
+shapes-more M {rep = rep} w a q r hq hr h f =
+    let p = same-least M rep (w q hq) (w r hr) (sym (a .taken q hq) ∙ h ∙ a .taken r hr) in
+    rules-map (Alike rep) (λ b c. Unit {0}) (λ b c g. tt) (find (M .rows) q f) (find (M .rows) r f) (p .rows f)
 
 module _ (M : Table) (W : WellMade M) (n k : ℕ) (rep next rep′ : List ℕ) (e : n ≡ M .states) (t : Together M rep) (w : Rounded M n rep next) (a : Adopted n next rep rep′ k) where
   -- A state's number after the round is the least state that the round leaves with it.

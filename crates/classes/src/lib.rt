@@ -1,8 +1,9 @@
 // Which states of an opened table have the same words: classes by rounds. All states begin in one class. A round leaves
 // two states of a class together if their rows match up to the classes; the rounds end when one parts no class.
+// The first round compares words. States that it leaves together have the same, so later rounds compare children alone.
 // Nothing is asked of the lent bytes: reads are clamped, and each contract speaks of every table that the bytes mean.
 ghost use mathlib.Core.Path.{_≡_};
-ghost use mathlib.Core.Bool.{true};
+ghost use mathlib.Core.Bool.{true, false};
 ghost use Prim.Native.Nat.{ℕ, _<_, _≤_};
 ghost use lib.ListN.{length, getD};
 ghost use Rattle.words.specs.Told.{Told};
@@ -10,13 +11,15 @@ ghost use Rattle.machine.specs.Machine.{Table};
 ghost use Rattle.machine.specs.Earliest.{Earliest};
 ghost use Rattle.layout.specs.Layout.{Opened};
 ghost use Rattle.classes.specs.Classes.{Classes, Numbered};
-ghost use Rattle.classes.specs.Rounds.{Meant, Alike, Leads, Picked, Low, Raised, Rounded, Put, Adopted};
+ghost use Rattle.classes.specs.Rounds.{Meant, Alike, Shaped, Shapes, Leads, Picked, Low, Raised, Rounded, Put, Adopted};
 
 mod children;
 mod rules;
 
 // Whether r stands for its class in the new round, and the round leaves q with it.
+// Words are compared in the first round only.
 fn leads(
+    first: bool,
     frames: &[u8],
     index: &[u64],
     symbols: usize,
@@ -26,7 +29,7 @@ fn leads(
     r: usize,
 ) -> bool
     ensures { λ x. ⌜ (x ≡ true → Alike (now (rep .entry)) q r) ⌝ }
-    ensures { λ x. ⌜ ((M : Table) → Meant (now (frames .entry)) (now (index .entry)) symbols M → Told (Leads M (now (rep .entry)) (now (next .entry)) q r) x) ⌝ }
+    ensures { λ x. ⌜ ((M : Table) → Meant (now (frames .entry)) (now (index .entry)) symbols M → (first ≡ false → Alike (now (rep .entry)) q r → Shaped M q r) → Told (Leads M (now (rep .entry)) (now (next .entry)) q r) x) ⌝ }
 {
     if layout::wide(layout::byte(next, r)) != r {
         return false;
@@ -34,19 +37,30 @@ fn leads(
     if layout::byte(rep, q) != layout::byte(rep, r) {
         return false;
     }
-    rules::same_rows(frames, index, symbols, rep, q, r)
+    if first {
+        return rules::same_rows(frames, index, symbols, rep, q, r);
+    }
+    children::same_children(index, symbols, rep, q, r)
 }
 
 // The state that stands for the class of q in the new round: the first before q that leads it, or q itself.
 // The number of its old class is the first state of that class, so none before that leads it.
-fn pick(frames: &[u8], index: &[u64], symbols: usize, rep: &[u8], next: &[u8], q: usize) -> usize
+fn pick(
+    first: bool,
+    frames: &[u8],
+    index: &[u64],
+    symbols: usize,
+    rep: &[u8],
+    next: &[u8],
+    q: usize,
+) -> usize
     requires { ⌜ Low (now rep) ⌝ }
     ensures { λ r. ⌜ (r ≤ q) × Alike (now (rep .entry)) q r ⌝ }
-    ensures { λ r. ⌜ ((M : Table) → Meant (now (frames .entry)) (now (index .entry)) symbols M → Picked M (now (rep .entry)) (now (next .entry)) q r) ⌝ }
+    ensures { λ r. ⌜ ((M : Table) → Meant (now (frames .entry)) (now (index .entry)) symbols M → (first ≡ false → (r : ℕ) → r < q → Alike (now (rep .entry)) q r → Shaped M q r) → Picked M (now (rep .entry)) (now (next .entry)) q r) ⌝ }
 {
     let mut r = layout::wide(layout::byte(rep, q));
     while r < q {
-        if leads(frames, index, symbols, rep, next, q, r) {
+        if leads(first, frames, index, symbols, rep, next, q, r) {
             return r;
         }
         r += 1;
@@ -55,14 +69,22 @@ fn pick(frames: &[u8], index: &[u64], symbols: usize, rep: &[u8], next: &[u8], q
 }
 
 // One round over the first n states.
-fn round(frames: &[u8], index: &[u64], symbols: usize, n: usize, rep: &[u8], next: &mut [u8])
+fn round(
+    first: bool,
+    frames: &[u8],
+    index: &[u64],
+    symbols: usize,
+    n: usize,
+    rep: &[u8],
+    next: &mut [u8],
+)
     requires { ⌜ (n ≤ 64) × (length (now next) ≡ 64) × Low (now rep) ⌝ }
     ensures { λ _. ⌜ Raised n (now (rep .entry)) (now (next .exit)) ⌝ }
-    ensures { λ _. ⌜ ((M : Table) → Meant (now (frames .entry)) (now (index .entry)) symbols M → Rounded M n (now (rep .entry)) (now (next .exit))) ⌝ }
+    ensures { λ _. ⌜ ((M : Table) → Meant (now (frames .entry)) (now (index .entry)) symbols M → (first ≡ false → Shapes M n (now (rep .entry))) → Rounded M n (now (rep .entry)) (now (next .exit))) ⌝ }
 {
     let mut q: usize = 0;
     while q < n {
-        let r = pick(frames, index, symbols, rep, next, q);
+        let r = pick(first, frames, index, symbols, rep, next, q);
         next[q] = r as u8;
         q += 1;
     }
@@ -119,12 +141,14 @@ fn rounds(frames: &[u8], index: &[u64], symbols: usize, n: usize, rep: &mut [u8]
     ensures { λ _. ⌜ ((M : Table) → Meant (now (frames .entry)) (now (index .entry)) symbols M → n ≡ M .states → Earliest M → Classes M (now (rep .exit))) ⌝ }
 {
     let mut next = [0u8; 64];
+    let mut first = true;
     loop {
-        round(frames, index, symbols, n, rep, &mut next);
+        round(first, frames, index, symbols, n, rep, &mut next);
         let k = adopt(n, &next, rep);
         if k == 0 {
             break;
         }
+        first = false;
     }
 }
 

@@ -1,21 +1,23 @@
 -- `pick` meets its contract: no state passed leads q.
 use mathlib.Core.Path.{_≡_, refl, _∙_}
+use mathlib.Core.Bool.{false}
 use Prim.Native.Nat.{ℕ, _-_, _<_, _≤_}
 use native.Mathlib.Omega.{arith}
 use borrow.Author.Needs.{needs}
 use borrow.Author.Count.{below-more}
 use lib.ListN.{getD}
 use Rattle.machine.specs.Machine.{Table}
-use Rattle.classes.specs.Rounds.{Meant, Leads}
+use Rattle.classes.specs.Rounds.{Meant, Alike, Shaped, Leads}
 use Rattle.classes.proofs.Pairs.{picked-self, picked-first}
 use Rattle.classes.proofs.pick.Statement.{statement}
 use Rattle.classes.proofs.pick.Tie as tie
 
 abbrev Inv-loop : tie.InvT-loop
-Inv-loop frames index symbols rep next q r₀ r = (r ≤ q) × ((M : Table) → Meant frames index symbols M → (p : ℕ) → p < r → Leads M rep next q p → ⊥)
+Inv-loop first frames index symbols rep next q r₀ r =
+    (r ≤ q) × ((M : Table) → Meant frames index symbols M → (first ≡ false → (p : ℕ) → p < q → Alike rep q p → Shaped M q p) → (p : ℕ) → p < r → Leads M rep next q p → ⊥)
 
 abbrev μ-loop : tie.MeasureT-loop
-μ-loop frames index symbols rep next q r₀ r = q - r
+μ-loop first frames index symbols rep next q r₀ r = q - r
 
 byte-requires : tie.Need-byte-requires Inv-loop μ-loop
 byte-requires c κs = search needs
@@ -28,7 +30,7 @@ loop-holds c =
     let a = c .before .before .before .before .before .before .args in
     let low = c .before .before .before .before .before .before .pre in
     let first : c .wide .result ≡ getD (a .rep .now) (a .q) 0 = c .wide .ensures .0 ∙ c .before .byte .ensures in
-    (omega (arith, first, low (a .q)), λ M m p h d. absurd (omega (arith, first, low p, d .pair .alike)))
+    (omega (arith, first, low (a .q)), λ M m s p h d. absurd (omega (arith, first, low p, d .pair .alike)))
 
 leads-requires : tie.Need-leads-requires Inv-loop μ-loop
 leads-requires c κs = search needs
@@ -38,7 +40,7 @@ returns c =
     let a = c .before .before .before .before .before .before .before .before .before .before .args in
     let l = c .before .before .before .loop in
     let d = c .before .leads .ensures in
-    ((omega arith, d .0 (c .if1 .taken)), λ M m. picked-first M (a .rep .now) (a .next .now) (a .q) (l .r) (d .1 M m .if-true (c .if1 .taken)) (l .inv .1 M m))
+    ((omega arith, d .0 (c .if1 .taken)), λ M m s. picked-first M (a .rep .now) (a .next .now) (a .q) (l .r) (d .1 M m (λ e. s e (l .r) (c .before .before .loop-test .taken)) .if-true (c .if1 .taken)) (l .inv .1 M m s))
 
 add-r : tie.Need-add-r Inv-loop μ-loop
 add-r c = search needs
@@ -50,12 +52,12 @@ loop-again : tie.Need-loop-again Inv-loop μ-loop
 loop-again c =
     let a = c .before .before .before .before .before .before .before .before .before .before .args in
     let l = c .before .before .before .loop in
-    (omega arith, λ M m. below-more (λ (p : ℕ). Leads M (a .rep .now) (a .next .now) (a .q) p → ⊥) (l .r) (l .inv .1 M m) (c .before .leads .ensures .1 M m .if-false (c .if1 .left)))
+    (omega arith, λ M m s. below-more (λ (p : ℕ). Leads M (a .rep .now) (a .next .now) (a .q) p → ⊥) (l .r) (l .inv .1 M m s) (c .before .leads .ensures .1 M m (λ e. s e (l .r) (c .before .before .loop-test .taken)) .if-false (c .if1 .left)))
 
 returns-2 : tie.Need-returns-2 Inv-loop μ-loop
 returns-2 c =
     let a = c .before .before .before .before .before .before .before .before .args in
-    ((omega arith, refl), λ M m. picked-self M (a .rep .now) (a .next .now) (a .q) (λ p h. c .before .loop .inv .1 M m p (omega arith)))
+    ((omega arith, refl), λ M m s. picked-self M (a .rep .now) (a .next .now) (a .q) (λ p h. c .before .loop .inv .1 M m s p (omega arith)))
 
 pub pick-spec : {M : Type 1} → statement M
 pick-spec =

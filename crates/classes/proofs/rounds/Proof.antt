@@ -1,25 +1,27 @@
 -- `rounds` meets its contract: states with the same words stay together; numbers only rise; where nothing changed the classes are found.
-use mathlib.Core.Path.{_≡_, refl, _∙_}
+use mathlib.Core.Path.{_≡_, refl, sym, _∙_}
+use mathlib.Core.Bool.{false, true≢false}
 use native.Mathlib.Omega.{arith}
 use borrow.Author.Needs.{needs}
 use lib.ListN.{length}
 use Rattle.machine.specs.Machine.{Table}
 use Rattle.machine.specs.Earliest.{Earliest}
-use Rattle.classes.specs.Rounds.{Meant, Low, slack}
+use Rattle.classes.specs.Rounds.{Meant, Shapes, Low, slack}
 use Rattle.classes.proofs.Slack.{adopted-low, numbered}
-use Rattle.classes.proofs.Settled.{Together, together-none, together-more, settled}
+use Rattle.classes.proofs.Settled.{Together, together-none, together-more, shapes-more, settled}
 use Rattle.classes.proofs.rounds.Statement.{statement}
 use Rattle.classes.proofs.rounds.Tie as tie
 
 abbrev Inv-loop : tie.InvT-loop
-Inv-loop frames index symbols n rep₀ next₀ rep next =
+Inv-loop frames index symbols n rep₀ next₀ first₀ rep next first =
     (length next ≡ 64) × (length rep ≡ 64) × Low rep × ((M : Table) → Meant frames index symbols M → n ≡ M .states → Earliest M → Together M rep)
+    × ((M : Table) → Meant frames index symbols M → first ≡ false → Shapes M n rep)
 
 abbrev μ-loop : tie.MeasureT-loop
-μ-loop frames index symbols n rep₀ next₀ rep next = slack rep
+μ-loop frames index symbols n rep₀ next₀ first₀ rep next first = slack rep
 
 loop-holds : tie.Need-loop-holds Inv-loop μ-loop
-loop-holds c = (refl, c .before .before .before .pre .1, λ q. omega (arith, c .before .before .before .pre .2 q), λ M m e E. together-none M (c .before .before .before .args .rep .now) (c .before .before .before .pre .2))
+loop-holds c = (refl, c .before .before .before .pre .1, λ q. omega (arith, c .before .before .before .pre .2 q), λ M m e E. together-none M (c .before .before .before .args .rep .now) (c .before .before .before .pre .2), λ M m e. absurd (true≢false e))
 
 slice-aggregate-round : tie.Need-slice-aggregate-round Inv-loop μ-loop
 slice-aggregate-round c = search needs
@@ -42,12 +44,13 @@ loop-again c =
     let w = c .before .before .before .before .before .before .before .round .ensures in
     let d = c .before .before .before .adopt .ensures in
     let n = c .before .before .before .before .before .before .before .before .before .before .before .before .before .before .args .n in
-    let next = c .before .before .before .before .before .before .before .round .last .1 .1 .1 .1 .1 .0 in
+    let next = c .before .before .before .before .before .before .before .round .last .1 .1 .1 .1 .1 .1 .0 in
     let rep′ = c .before .before .before .adopt .last .1 .1 .0 in (
-      c .before .before .before .before .before .before .before .round .kept .1 .1 .1 .1 .1 .0 ∙ l .inv .0,
+      c .before .before .before .before .before .before .before .round .kept .1 .1 .1 .1 .1 .1 .0 ∙ l .inv .0,
       d .long ∙ l .inv .1,
       adopted-low d (l .inv .2) (w .0),
-      λ M m e E. together-more M (m .opened .limited .made) n (c .before .before .before .adopt .result) (l .rep) next rep′ e (l .inv .3 M m e E) (w .1 M m) d E,
+      λ M m e E. together-more M (m .opened .limited .made) n (c .before .before .before .adopt .result) (l .rep) next rep′ e (l .inv .3 M m e E) (w .1 M m (l .inv .4 M m)) d E,
+      λ M m e. shapes-more M (w .1 M m (l .inv .4 M m)) d,
     )
 
 same-length : tie.Need-same-length Inv-loop μ-loop
@@ -59,10 +62,10 @@ returns c =
     let w = c .before .before .before .before .before .before .before .round .ensures in
     let d = c .before .before .before .adopt .ensures in
     let n = c .before .before .before .before .before .before .before .before .before .before .before .before .before .before .args .n in
-    let next = c .before .before .before .before .before .before .before .round .last .1 .1 .1 .1 .1 .0 in
+    let next = c .before .before .before .before .before .before .before .round .last .1 .1 .1 .1 .1 .1 .0 in
     let rep′ = c .before .before .before .adopt .last .1 .1 .0 in (
       numbered rep′ (d .long ∙ l .inv .1) (adopted-low d (l .inv .2) (w .0)),
-      λ M m e E. settled M (m .opened .limited .made) n (c .before .before .before .adopt .result) (l .rep) next rep′ e (l .inv .3 M m e E) (w .1 M m) d (d .still (c .if1 .taken)),
+      λ M m e E. settled M (m .opened .limited .made) n (c .before .before .before .adopt .result) (l .rep) next rep′ e (l .inv .3 M m e E) (w .1 M m (l .inv .4 M m)) d (d .still (c .if1 .taken)),
     )
 
 pub rounds-spec : {M : Type 1} → statement M

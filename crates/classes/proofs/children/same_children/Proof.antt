@@ -54,8 +54,8 @@ loop-again c =
     let l = c .before .before .before .before .before .loop in (
       omega arith,
       λ F M o s. below-more (λ (g : ℕ). Rules (Alike (a .rep .now)) (find (M .rows) (a .q) g) (find (M .rows) (a .r) g)) (l .f) (l .inv .1 F M o s)
-      (told-kids (a .rep .now) o (a .q) (a .r) (l .f) (c .before .before .before .entry .result) (c .before .before .entry2 .result) (c .before .before .before .entry .ensures) (c .before .before .entry2 .ensures) (s (l .f)) (c .before .same-kids .ensures) .if-true
-      (not-false _ (c .if1 .left))),
+          (told-kids (a .rep .now) o (a .q) (a .r) (l .f) (c .before .before .before .entry .result) (c .before .before .entry2 .result) (c .before .before .before .entry .ensures) (c .before .before .entry2 .ensures) (s (l .f)) (c .before .same-kids .ensures) .if-true
+          (not-false _ (c .if1 .left))),
     )
 
 returns-2 : tie.Need-returns-2 Inv-loop μ-loop
