@@ -39,23 +39,53 @@ room-three (a ∷ b ∷ []) l m = (omega arith, (omega (arith, m .0 .1), tt))
 room-three (a ∷ b ∷ c ∷ []) l m = (omega arith, (omega (arith, m .0 .1), (omega (arith, m .0 .1, m .1 .0 .1), tt)))
 room-three (a ∷ b ∷ c ∷ d ∷ cs) l m = absurd (omega arith)
 
--- The places of c behind n: c stands in the lowest, and n one place higher; its own third place was free.
-record Behind (n c : ℕ) : Type 0 where
-  last : (n * 64 + c) % 64 ≡ c
-  second : (n * 64 + c) / 64 % 64 ≡ n % 64
-  third : (n * 64 + c) / 4096 % 64 ≡ n / 64 % 64
-  none : 0 ≡ n / 4096 % 64
+-- The three lowest places of x hold the states a, b and c, the lowest first.
+record Places (x a b c : ℕ) : Type 0 where
+  last : x % 64 ≡ a
+  second-last : x / 64 % 64 ≡ b
+  third-last : x / 4096 % 64 ≡ c
 
-behind : (n c : ℕ) → n < 4096 → c < 64 → Behind n c
-behind n c i k =
+-- Every number has places.
+places : (x : ℕ) → Places x (x % 64) (x / 64 % 64) (x / 4096 % 64)
+places x = record { last = refl; second-last = refl; third-last = refl }
+
+-- A state c behind n stands in the lowest place, and those of n one place higher.
+places-behind : (n c : ℕ) → n < 4096 → c < 64 → Places (n * 64 + c) c (n % 64) (n / 64 % 64)
+places-behind n c i k =
     let d : (n * 64 + c) / 64 ≡ n = omega arith in
     let e : (n * 64 + c) / 4096 ≡ n / 64 = omega arith in
-    record { last = omega arith; second = ap (λ (x : ℕ). x % 64) d; third = ap (λ (x : ℕ). x % 64) e; none = omega arith }
+    record { last = omega arith; second-last = ap (λ (x : ℕ). x % 64) d; third-last = ap (λ (x : ℕ). x % 64) e }
+
+-- Above two places the third is free.
+places-free : (n : ℕ) → n < 4096 → Places n (n % 64) (n / 64 % 64) 0
+places-free n h = record { last = refl; second-last = refl; third-last = omega arith }
+
+-- An entry has its rule's later states in the places from bit 36 on.
+places-later : {p x : ℕ} (a : Rule) → Unpacked p a x
+    → Places (x / 68719476736) (laterStates (a .rest) % 64) (laterStates (a .rest) / 64 % 64) (laterStates (a .rest) / 4096 % 64)
+places-later a u = record { last = u .last; second-last = omega (arith, u .second-last); third-last = omega (arith, u .third-last) }
 
 module _ (rep : List ℕ) where
   -- States that are in one class are so by their other names.
   alike-as : {a b c d : ℕ} → a ≡ b → c ≡ d → Alike rep a c → Alike rep b d
   alike-as u v h = ap (λ (i : ℕ). getD rep i 0) (sym u) ∙ h ∙ ap (λ (i : ℕ). getD rep i 0) v
+
+  -- What is alike at every place, by the states that stand there.
+  later-places : {x y a b c d e f : ℕ} → Places x a b c → Places y d e f → LaterAlike rep x y ↔ (Alike rep a d × Alike rep b e × Alike rep c f)
+  later-places u v = (
+    λ h. (alike-as (u .last) (v .last) (h .last), alike-as (u .second-last) (v .second-last) (h .second-last), alike-as (u .third-last) (v .third-last) (h .third-last)),
+    λ h. record {
+      last = alike-as (sym (u .last)) (sym (v .last)) (h .0);
+      second-last = alike-as (sym (u .second-last)) (sym (v .second-last)) (h .1);
+      third-last = alike-as (sym (u .third-last)) (sym (v .third-last)) (h .2);
+    },
+  )
+
+  -- Numbers that are alike at the lowest place and equal above it are alike.
+  pub later-upper : (x y : ℕ) → Alike rep (x % 64) (y % 64) → x / 64 ≡ y / 64 → LaterAlike rep x y
+  later-upper x y h e =
+      let d : x / 4096 ≡ y / 4096 = omega arith in
+      record { last = h; second-last = ap (λ (n : ℕ). getD rep (n % 64) 0) e; third-last = ap (λ (n : ℕ). getD rep (n % 64) 0) d }
 
   -- Equal numbers are alike at every place.
   pub later-same : {x y : ℕ} → x ≡ y → LaterAlike rep x y
@@ -72,18 +102,9 @@ module _ (rep : List ℕ) where
   -- One state more behind those that are packed.
   later-more : (n m c d : ℕ) → n < 4096 → m < 4096 → c < 64 → d < 64 → LaterAlike rep (n * 64 + c) (m * 64 + d) ↔ (LaterAlike rep n m × Alike rep c d)
   later-more n m c d i j k l =
-      let u = behind n c i k in
-      let v = behind m d j l in (
-        λ h. (
-          record { last = alike-as (u .second) (v .second) (h .second-last); second-last = alike-as (u .third) (v .third) (h .third-last); third-last = alike-as (u .none) (v .none) refl },
-          alike-as (u .last) (v .last) (h .last),
-        ),
-        λ h. record {
-          last = alike-as (sym (u .last)) (sym (v .last)) (h .1);
-          second-last = alike-as (sym (u .second)) (sym (v .second)) (h .0 .last);
-          third-last = alike-as (sym (u .third)) (sym (v .third)) (h .0 .second-last);
-        },
-      )
+      let u = later-places (places-behind n c i k) (places-behind m d j l) in
+      let v = later-places (places-free n i) (places-free m j) in
+      (λ h. let s = u .0 h in (v .1 (s .1, s .2, refl), s .0), λ h. let s = v .0 (h .0) in u .1 (h .1, s .0, s .1))
 
   -- Children with the same words, packed behind n and m: alike exactly when n and m are, and the children are in one class each.
   later-rests : (n m : ℕ) (cs ds : List Child) → Room n cs → Room m ds → Small cs → Small ds → Rests Any cs ds
@@ -110,24 +131,14 @@ module _ (rep : List ℕ) where
       let t = later-rests 0 0 cs ds (room-three cs (omega arith) (k .1)) (room-three ds (omega arith) (l .1)) (k .1) (l .1) (s .2) in
       (λ h. (h .0, s .1, t .0 (h .1) .1), λ h. (h .0, t .1 (later-same {x = 0} refl, h .2)))
 
-  -- What an entry holds of a rule's later children.
-  later-unpacks : {p x : ℕ} (a : Rule) → Unpacked p a x → (x / 68719476736 % 64 ≡ laterStates (a .rest) % 64) × (x / 68719476736 / 64 % 64 ≡ laterStates (a .rest) / 64 % 64) × (x / 68719476736 / 4096 % 64 ≡ laterStates (a .rest) / 4096 % 64)
-  later-unpacks a u = (u .last, omega (arith, u .second-last), omega (arith, u .third-last))
-
   -- Children's states in two entries are alike exactly when those of the rules are that the entries unpack to.
   kids-unpack : {p s x y : ℕ} (a b : Rule) → Unpacked p a x → Unpacked s b y
       → KidsAlike rep x y ↔ (Alike rep (firstState (a .rest)) (firstState (b .rest)) × LaterAlike rep (laterStates (a .rest)) (laterStates (b .rest)))
   kids-unpack a b u v =
-      let i = later-unpacks a u in
-      let j = later-unpacks b v in (
-        λ h. (
-          alike-as (u .first) (v .first) (h .first),
-          record { last = alike-as (i .0) (j .0) (h .later .last); second-last = alike-as (i .1) (j .1) (h .later .second-last); third-last = alike-as (i .2) (j .2) (h .later .third-last) },
-        ),
-        λ h. record {
-          first = alike-as (sym (u .first)) (sym (v .first)) (h .0);
-          later = record { last = alike-as (sym (i .0)) (sym (j .0)) (h .1 .last); second-last = alike-as (sym (i .1)) (sym (j .1)) (h .1 .second-last); third-last = alike-as (sym (i .2)) (sym (j .2)) (h .1 .third-last) };
-        },
+      let i = later-places (places-later a u) (places-later b v) in
+      let j = later-places (places (laterStates (a .rest))) (places (laterStates (b .rest))) in (
+        λ h. (alike-as (u .first) (v .first) (h .first), j .1 (i .0 (h .later))),
+        λ h. record { first = alike-as (sym (u .first)) (sym (v .first)) (h .0); later = i .1 (j .0 (h .1)) },
       )
 
   module _ {F I : List ℕ} {M : Table} (o : Opened F I M) (q r f : ℕ) where

@@ -1,5 +1,6 @@
 -- What a round leaves together is an equivalence, and the least state of each class names it.
 use mathlib.Core.Path.{_≡_, refl, sym, subst, _∙_}
+use mathlib.Core.Bool.{Bool}
 use mathlib.Core.List.{List, [], _∷_}
 use mathlib.Core.Option.{Option, none, some}
 use Prim.Native.Nat.{ℕ, _<_, _≤_}
@@ -7,7 +8,9 @@ use native.Mathlib.Omega.{arith}
 use native.Mathlib.Decide.{decLt}
 use lib.ListN.{getD}
 use Rattle.machine.specs.Machine.{Child, Rule, Table, find}
-use Rattle.machine.specs.Twins.{Rests, Rules}
+use Rattle.machine.specs.Twins.{Rests, Rules, Match}
+use Rattle.words.specs.Told.{Told}
+use Rattle.words.proofs.Told.{told-map}
 use Rattle.classes.specs.Rounds.{Alike, Paired, Leads, Picked, Least}
 
 module _ (rep : List ℕ) where
@@ -79,6 +82,10 @@ module _ (M : Table) (rep : List ℕ) where
 
   -- What a round puts at a state: itself, or the first before it that leads it.
   module _ (next : List ℕ) (q : ℕ) where
+    -- Where r stands for itself and is in one class with q, a test of their rows tells whether r leads q.
+    pub told-leads : {z : Bool} (r : ℕ) → getD next r 0 ≡ r → Alike rep q r → Told (Match M M (Alike rep) q r) z → Told (Leads M rep next q r) z
+    told-leads r o a t = told-map (λ h. record { own = o; pair = record { alike = a; rows = h } }) (λ h. h .pair .rows) t
+
     -- No state before q leads it: q stands for its class.
     pub picked-self : ((p : ℕ) → p < q → Leads M rep next q p → ⊥) → Picked M rep next q q
     picked-self h = record { pair = paired-refl q; first = h }

@@ -39,6 +39,12 @@ Shaped M q r = Match M M (λ p s. Unit {0}) q r
 abbrev pub Shapes : Table → ℕ → List ℕ → Type 0
 Shapes M n rep = (q r : ℕ) → q < n → r < n → Alike rep q r → Shaped M q r
 
+-- The sizes that let the later rounds read with no test: at most 64 symbols, an entry for each of 64 states and symbols, a class for each of 64 states.
+pub record Sized (symbols : ℕ) (I rep : List ℕ) : Type 0 where
+  pub few : symbols ≤ 64
+  pub entries : length I ≡ 4096
+  pub states : length rep ≡ 64
+
 -- The states in the three lowest places, of six bits each, are in one class, each in turn.
 pub record LaterAlike (rep : List ℕ) (x y : ℕ) : Type 0 where
   pub last : Alike rep (x % 64) (y % 64)

@@ -1,7 +1,8 @@
 // Which states of an opened table have the same words: classes by rounds. All states begin in one class. A round leaves
 // two states of a class together if their rows match up to the classes; the rounds end when one parts no class.
 // The first round compares words. States that it leaves together have the same, so later rounds compare children alone.
-// Nothing is asked of the lent bytes: reads are clamped, and each contract speaks of every table that the bytes mean.
+// Nothing is asked of the lent bytes: reads are clamped, an index of another size than an opened table's is left alone,
+// and each contract speaks of every table that the bytes mean.
 ghost use mathlib.Core.Path.{_≡_};
 ghost use mathlib.Core.Bool.{true, false};
 ghost use Prim.Native.Nat.{ℕ, _<_, _≤_};
@@ -11,7 +12,7 @@ ghost use Rattle.machine.specs.Machine.{Table};
 ghost use Rattle.machine.specs.Earliest.{Earliest};
 ghost use Rattle.layout.specs.Layout.{Opened};
 ghost use Rattle.classes.specs.Classes.{Classes, Numbered};
-ghost use Rattle.classes.specs.Rounds.{Meant, Alike, Shaped, Shapes, Leads, Picked, Low, Raised, Rounded, Put, Adopted};
+ghost use Rattle.classes.specs.Rounds.{Meant, Alike, Shaped, Shapes, Sized, Leads, Picked, Low, Raised, Rounded, Put, Adopted};
 
 mod children;
 mod rules;
@@ -28,13 +29,14 @@ fn leads(
     q: usize,
     r: usize,
 ) -> bool
+    requires { ⌜ Sized symbols (now index) (now rep) × (length (now next) ≡ 64) × (q < 64) × (r < 64) ⌝ }
     ensures { λ x. ⌜ (x ≡ true → Alike (now (rep .entry)) q r) ⌝ }
     ensures { λ x. ⌜ ((M : Table) → Meant (now (frames .entry)) (now (index .entry)) symbols M → (first ≡ false → Alike (now (rep .entry)) q r → Shaped M q r) → Told (Leads M (now (rep .entry)) (now (next .entry)) q r) x) ⌝ }
 {
-    if layout::wide(layout::byte(next, r)) != r {
+    if layout::wide(next[r]) != r {
         return false;
     }
-    if layout::byte(rep, q) != layout::byte(rep, r) {
+    if rep[q] != rep[r] {
         return false;
     }
     if first {
@@ -54,11 +56,11 @@ fn pick(
     next: &[u8],
     q: usize,
 ) -> usize
-    requires { ⌜ Low (now rep) ⌝ }
+    requires { ⌜ Sized symbols (now index) (now rep) × (length (now next) ≡ 64) × (q < 64) × Low (now rep) ⌝ }
     ensures { λ r. ⌜ (r ≤ q) × Alike (now (rep .entry)) q r ⌝ }
     ensures { λ r. ⌜ ((M : Table) → Meant (now (frames .entry)) (now (index .entry)) symbols M → (first ≡ false → (r : ℕ) → r < q → Alike (now (rep .entry)) q r → Shaped M q r) → Picked M (now (rep .entry)) (now (next .entry)) q r) ⌝ }
 {
-    let mut r = layout::wide(layout::byte(rep, q));
+    let mut r = layout::wide(rep[q]);
     while r < q {
         if leads(first, frames, index, symbols, rep, next, q, r) {
             return r;
@@ -78,7 +80,7 @@ fn round(
     rep: &[u8],
     next: &mut [u8],
 )
-    requires { ⌜ (n ≤ 64) × (length (now next) ≡ 64) × Low (now rep) ⌝ }
+    requires { ⌜ Sized symbols (now index) (now rep) × (n ≤ 64) × (length (now next) ≡ 64) × Low (now rep) ⌝ }
     ensures { λ _. ⌜ Raised n (now (rep .entry)) (now (next .exit)) ⌝ }
     ensures { λ _. ⌜ ((M : Table) → Meant (now (frames .entry)) (now (index .entry)) symbols M → (first ≡ false → Shapes M n (now (rep .entry))) → Rounded M n (now (rep .entry)) (now (next .exit))) ⌝ }
 {
@@ -136,7 +138,7 @@ fn at_most(x: usize) -> usize
 
 // The rounds, until one parts no class.
 fn rounds(frames: &[u8], index: &[u64], symbols: usize, n: usize, rep: &mut [u8])
-    requires { ⌜ (n ≤ 64) × (length (now rep) ≡ 64) × ((q : ℕ) → getD (now rep) q 0 ≡ 0) ⌝ }
+    requires { ⌜ Sized symbols (now index) (now rep) × (n ≤ 64) × ((q : ℕ) → getD (now rep) q 0 ≡ 0) ⌝ }
     ensures { λ _. ⌜ Numbered (now (rep .exit)) ⌝ }
     ensures { λ _. ⌜ ((M : Table) → Meant (now (frames .entry)) (now (index .entry)) symbols M → n ≡ M .states → Earliest M → Classes M (now (rep .exit))) ⌝ }
 {
@@ -159,5 +161,8 @@ pub fn part(frames: &[u8], index: &[u64], symbols: usize, states: usize, rep: &m
     ensures { λ _. ⌜ ((M : Table) → Opened (now (frames .entry)) (now (index .entry)) M → symbols ≡ length (M .arities) → states ≡ M .states → Earliest M → Classes M (now (rep .exit))) ⌝ }
 {
     clear(rep);
+    if index.len() != layout::ENTRIES {
+        return;
+    }
     rounds(frames, index, at_most(symbols), at_most(states), rep);
 }

@@ -1,5 +1,5 @@
 -- `pick` meets its contract: no state passed leads q.
-use mathlib.Core.Path.{_≡_, refl, _∙_}
+use mathlib.Core.Path.{_≡_, refl}
 use mathlib.Core.Bool.{false}
 use Prim.Native.Nat.{ℕ, _-_, _<_, _≤_}
 use native.Mathlib.Omega.{arith}
@@ -19,8 +19,8 @@ Inv-loop first frames index symbols rep next q r₀ r =
 abbrev μ-loop : tie.MeasureT-loop
 μ-loop first frames index symbols rep next q r₀ r = q - r
 
-byte-requires : tie.Need-byte-requires Inv-loop μ-loop
-byte-requires c κs = search needs
+shared-slice-read-wide : tie.Need-shared-slice-read-wide Inv-loop μ-loop
+shared-slice-read-wide c = search needs
 
 wide-requires : tie.Need-wide-requires Inv-loop μ-loop
 wide-requires c κs = search needs
@@ -28,8 +28,8 @@ wide-requires c κs = search needs
 loop-holds : tie.Need-loop-holds Inv-loop μ-loop
 loop-holds c =
     let a = c .before .before .before .before .before .before .args in
-    let low = c .before .before .before .before .before .before .pre in
-    let first : c .wide .result ≡ getD (a .rep .now) (a .q) 0 = c .wide .ensures .0 ∙ c .before .byte .ensures in
+    let low = c .before .before .before .before .before .before .pre .3 in
+    let first : c .wide .result ≡ getD (a .rep .now) (a .q) 0 = c .wide .ensures .0 in
     (omega (arith, first, low (a .q)), λ M m s p h d. absurd (omega (arith, first, low p, d .pair .alike)))
 
 leads-requires : tie.Need-leads-requires Inv-loop μ-loop
@@ -65,7 +65,7 @@ pick-spec =
     (tie.spec
     Inv-loop
     μ-loop
-    byte-requires
+    shared-slice-read-wide
     wide-requires
     loop-holds
     leads-requires

@@ -20,7 +20,7 @@ abbrev μ-loop : tie.MeasureT-loop
 μ-loop first frames index symbols n rep next₀ q₀ next q = n - q
 
 loop-holds : tie.Need-loop-holds Inv-loop μ-loop
-loop-holds c = (omega arith, c .before .before .before .before .pre .1, λ p h. absurd (omega arith), λ M m s p h. absurd (omega arith))
+loop-holds c = (omega arith, c .before .before .before .before .pre .2, λ p h. absurd (omega arith), λ M m s p h. absurd (omega arith))
 
 pick-requires : tie.Need-pick-requires Inv-loop μ-loop
 pick-requires c κs = search needs
@@ -43,8 +43,8 @@ loop-again c =
     let l = c .before .before .before .loop in
     let d = c .pick .ensures in
     let r = c .pick .result in
-    let low = c .before .before .before .before .before .before .before .before .pre .2 r in
-    let inside : l .q < length (l .next) = omega (arith, l .inv .1, c .before .before .loop-test .taken, c .before .before .before .before .before .before .before .before .pre .0) in (
+    let low = c .before .before .before .before .before .before .before .before .pre .3 r in
+    let inside : l .q < length (l .next) = omega (arith, l .inv .1, c .before .before .loop-test .taken, c .before .before .before .before .before .before .before .before .pre .1) in (
       omega arith,
       simp length-set (l .inv .1),
       set-below (λ p x. (getD (a .rep .now) p 0 ≤ x) × (x ≤ p)) (l .next) (l .q) r inside (l .inv .2) (omega (arith, d .0 .1, low), d .0 .0),

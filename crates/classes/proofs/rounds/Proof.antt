@@ -21,7 +21,7 @@ abbrev μ-loop : tie.MeasureT-loop
 μ-loop frames index symbols n rep₀ next₀ first₀ rep next first = slack rep
 
 loop-holds : tie.Need-loop-holds Inv-loop μ-loop
-loop-holds c = (refl, c .before .before .before .pre .1, λ q. omega (arith, c .before .before .before .pre .2 q), λ M m e E. together-none M (c .before .before .before .args .rep .now) (c .before .before .before .pre .2), λ M m e. absurd (true≢false e))
+loop-holds c = (refl, c .before .before .before .pre .0 .states, λ q. omega (arith, c .before .before .before .pre .2 q), λ M m e E. together-none M (c .before .before .before .args .rep .now) (c .before .before .before .pre .2), λ M m e. absurd (true≢false e))
 
 slice-aggregate-round : tie.Need-slice-aggregate-round Inv-loop μ-loop
 slice-aggregate-round c = search needs
