@@ -1,0 +1,3 @@
+-- The ends of each state's words: summaries as numbers, and what adding rules does to them.
+pub mod Codes
+pub mod Steps
