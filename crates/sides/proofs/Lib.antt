@@ -3,15 +3,15 @@
 --   Tests      letter-alone, rank-.., clean-from, unclean-below, stuck-.., read-..: one word, ranks, common prefixes, words that can be pushed
 --   Bytes      ..-here: a word's end, read from its bytes
 --   Walks      left-begun, left-more, left-done: from child to child, and a rule's summary gathered on the way
---   Sated      join-full, join-sated: rules that add nothing
 --   Steps      visit-.., grown-one: what one rule adds
+--   Sated      stuck-several, several-rests: states with several letters. visit-told: a rule leaves the empty words told
 --   Rounds     grown-.., tried-..: rules in turn
---   Settled    zeros-witnessed, tried-covering: what is left when no rule adds anything
+--   Settled    tried-witnessed, tried-told, tried-covering: what is left when no rule adds anything
 pub mod Codes
 pub mod Tests
 pub mod Bytes
 pub mod Walks
-pub mod Sated
 pub mod Steps
+pub mod Sated
 pub mod Rounds
 pub mod Settled

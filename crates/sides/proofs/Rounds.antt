@@ -3,23 +3,24 @@ use mathlib.Core.Path.{_≡_, refl, sym, ap, _∙_, subst}
 use mathlib.Core.List.{List}
 use mathlib.Core.Logic.{_⊎_, inl, inr, ⊎-elim}
 use mathlib.Core.Option.{Option, none, some, Option·some-injective, Option·none-ne-some}
-use Prim.Native.Nat.{ℕ, _+_, _-_, _≤_, _<_}
+use Prim.Native.Nat.{ℕ, _+_, _-_, _%_, _≤_, _<_}
 use native.Mathlib.Decide.{ℕ-discrete}
 use native.Mathlib.Omega.{arith}
 use lib.ListN.{length, getD}
 use Rattle.machine.specs.Machine.{Rule, Row, Table, find}
-use Rattle.ends.specs.Ends.{Side, value, at, ranks}
+use Rattle.ends.specs.Ends.{Side, at, ranks}
 use Rattle.ends.specs.Meaning.{Witnessed}
 use Rattle.ends.specs.Companion.{visit}
 use Rattle.ends.proofs.Known.{visit-witnessed}
 use Rattle.layout.specs.Leaves.{PlaceOf, LookedUp}
 use Rattle.layout.specs.declared.Place.{Place}
 use Rattle.layout.specs.declared.Lookup.the-variants.{Found, Missing}
-use Rattle.sides.specs.Codes.{decode, K, summaries}
+use Rattle.sides.specs.Codes.{K, summaries}
+use Rattle.sides.specs.Blank.{EmptyTold}
 use Rattle.sides.specs.Steps.{rowOf, Grown, Tried, OneRule, OneState, States}
-use Rattle.sides.proofs.Codes.{letters-several, has-empty}
-use Rattle.sides.proofs.Sated.{join-full}
-use Rattle.sides.proofs.Steps.{ranks-most, visit-none}
+use Rattle.sides.proofs.Codes.{letters-several}
+use Rattle.sides.proofs.Sated.{several-rests, visit-told}
+use Rattle.sides.proofs.Steps.{ranks-most}
 
 -- ---- how much more is known
 -- Nothing was done.
@@ -42,14 +43,15 @@ module _ {M : Table} {side : Side} where
   -- ---- what was tried
   -- Nothing was done, and nothing that was to be tried adds anything.
   pub tried-none : {tried : ℕ → ℕ → Type 0} (xs : List ℕ) → ((q f : ℕ) (r : Rule) → tried q f → find (M .rows) q f ≡ some r → visit side (rowOf q f r) (summaries xs) ≡ summaries xs) → Tried M side tried xs xs 0
-  tried-none xs h = record { keeps = λ W. W; rests = λ e. h }
+  tried-none xs h = record { keeps = λ W. W; tells = λ T. T; rests = λ R e. h }
 
   -- One after the other.
   pub tried-then : {this that all : ℕ → ℕ → Type 0} {xs ys zs : List ℕ} {k j : ℕ} → Tried M side this xs ys k → Grown ys zs j → Tried M side that ys zs j → ((q f : ℕ) → all q f → this q f ⊎ that q f) → Tried M side all xs zs (k + j)
   tried-then t g s split =
       record {
         keeps = λ W. s .keeps (t .keeps W);
-        rests = λ e q f r a found. ⊎-elim (λ h. subst (λ vs. visit side (rowOf q f r) vs ≡ vs) (sym (g .stays (omega arith))) (t .rests (omega arith) q f r h found)) (λ h. s .rests (omega arith) q f r h found) (split q f a);
+        tells = λ T. s .tells (t .tells T);
+        rests = λ R e q f r a found. ⊎-elim (λ h. subst (λ vs. visit side (rowOf q f r) vs ≡ vs) (sym (g .stays (omega arith))) (t .rests R (omega arith) q f r h found)) (λ h. s .rests (t .keeps (R .0), t .tells (R .1)) (omega arith) q f r h found) (split q f a);
       }
 
   -- ---- one rule
@@ -74,17 +76,22 @@ module _ {M : Table} {side : Side} where
         go (some s) i d =
             record {
               keeps = λ W. subst (λ vs. Witnessed M side (at vs)) (sym (step f s d)) (visit-witnessed M side (rowOf q f s) i (summaries xs) W);
-              rests = λ z m n r a e.
+              tells = λ T. subst (λ vs. EmptyTold M (at vs)) (sym (step f s d)) (visit-told M side (rowOf q f s) (summaries xs) T);
+              rests = λ R z m n r a e.
                   ap (λ (row : Row). visit side row (summaries ys)) (sym (rows s r m n a (Option·some-injective s r (sym i ∙ ap (λ x. find (M .rows) x f) (sym (a .0)) ∙ ap (λ x. find (M .rows) m x) (sym (a .1)) ∙ e))))
                   ∙ ap (visit side (rowOf q f s)) (g .stays z) ∙ sym (step f s d);
             }
 
 -- ---- one state, all states
 module _ {M : Table} {side : Side} where
-  -- A state to which nothing can be added: all its rules are tried.
-  pub full-tried : (xs : List ℕ) (q n : ℕ) → getD xs q 0 ≡ 1281 → Tried M side (OneState q n) xs xs 0
-  full-tried xs q n e =
-      tried-none xs (λ p f r a found. sym (visit-none side p f r xs (join-full (K xs p) (value side (K xs) r) (ap (λ m. K xs m .letters) (a .0) ∙ ap (λ m. decode m .letters) e ∙ letters-several 257 (omega arith)) (ap (λ m. K xs m .empty) (a .0) ∙ ap (λ m. decode m .empty) e ∙ has-empty 1281 (omega arith)))))
+  -- A state that has several letters now: all its rules are tried.
+  pub several-tried : {tried : ℕ → ℕ → Type 0} {xs ys : List ℕ} {k q : ℕ} (n : ℕ) → Tried M side tried xs ys k → 257 ≤ getD ys q 0 % 1024 → Tried M side (OneState q n) xs ys k
+  several-tried {ys = ys} {q = q} n t h =
+      record {
+        keeps = t .keeps;
+        tells = t .tells;
+        rests = λ R z p f r a found. several-rests M side ys (t .keeps (R .0), t .tells (R .1)) p f r found (ap (λ m. K ys m .letters) (a .0) ∙ letters-several (getD ys q 0 % 1024) (omega arith));
+      }
 
   -- No symbol is tried yet.
   pub state-none : (xs : List ℕ) (q n : ℕ) → n ≡ 0 → Tried M side (OneState q n) xs xs 0

@@ -1,92 +1,55 @@
--- Rules that add nothing: a summary with several letters and the empty word, or with several letters where the rule writes a letter.
-use mathlib.Core.Path.{_≡_, refl, sym, ap, _∙_}
+-- States with several letters: no word can be pushed through them, and where the empty words are told no rule adds anything to them.
+use mathlib.Core.Path.{_≡_, refl, sym, ap, _∙_, subst}
 use mathlib.Core.Bool.{Bool, true, false, _&&_, _||_}
 use mathlib.Core.List.{List, [], _∷_}
 use mathlib.Core.Logic.{⊎-elim}
-use Prim.Native.Nat.{ℕ, zero, suc, _+_, _<_}
-use native.Mathlib.Decide.{decLt}
+use mathlib.Core.Option.{some}
+use Prim.Native.Nat.{ℕ, _%_, _≤_}
 use native.Mathlib.Omega.{arith}
-use lib.ListN.{length}
-use Rattle.words.specs.Word.{Word}
-use Rattle.machine.specs.Machine.{Child, Rule}
-use Rattle.ends.specs.Ends.{Side, left, right, end, several, Ends, unknown, alone, both, join, lives, through, before, beside, along, value}
-use Rattle.ends.proofs.Sides.{end-left, end-right}
-use Rattle.layout.specs.Layout.{restLetters, ruleLetters}
-use Rattle.sides.specs.Steps.{Sated}
+use Rattle.words.specs.Word.{Word, Holds}
+use Rattle.machine.specs.Machine.{Rule, Row, Table, find}
+use Rattle.machine.specs.Earliest.{L}
+use Rattle.ends.specs.Ends.{Side, several, Ends, both, join, value, at, only, stuck}
+use Rattle.ends.specs.Companion.{visit}
+use Rattle.ends.proofs.Sides.{end-empty}
+use Rattle.ends.proofs.Rules.{value-shown}
+use Rattle.ends.proofs.Known.{at-set}
+use Rattle.sides.specs.Codes.{decode, K, summaries}
+use Rattle.sides.specs.Blank.{EmptyTold}
+use Rattle.sides.specs.Steps.{rowOf, Ready}
+use Rattle.sides.proofs.Codes.{letters-several}
+use Rattle.sides.proofs.Steps.{summary-all, visit-none}
 
--- ---- words with a letter
--- A test that fails in its second half fails.
-and-false : (b : Bool) → b && false ≡ false
-and-false true = refl
-and-false false = refl
-
--- The summary of words x y, by whether some are known.
-abbrev frontBy : Ends → Ends → Bool → Ends
-frontBy x y t = elim t [ true ↦ record { empty = x .empty && y .empty; letters = through (x .empty) (x .letters) (y .letters) } | false ↦ unknown ]
-
--- Words that begin with words that are not empty are not empty.
-before-first : (x y : Ends) → x .empty ≡ false → before x y .empty ≡ false
-before-first x y e = go (lives x && lives y)
+-- No word can be pushed through a state with several letters.
+pub stuck-several : (x : ℕ) (w : Word) → 257 ≤ x % 1024 → false ≡ stuck (decode x) w
+stuck-several x [] h = refl
+stuck-several x (a ∷ w) h = sym (ap (λ l. decode x .empty && only l a) (letters-several (x % 1024) (omega arith)) ∙ off (decode x .empty))
   where
-    go : (t : Bool) → frontBy x y t .empty ≡ false
-    go true = ap (λ b. b && y .empty) e
-    go false = refl
-
--- Words that end in words that are not empty are not empty.
-before-second : (x y : Ends) → y .empty ≡ false → before x y .empty ≡ false
-before-second x y e = go (lives x && lives y)
-  where
-    go : (t : Bool) → frontBy x y t .empty ≡ false
-    go true = ap (λ b. x .empty && b) e ∙ and-false (x .empty)
-    go false = refl
-
--- The same at either side, for the first words.
-beside-first : (side : Side) (x y : Ends) → x .empty ≡ false → beside side x y .empty ≡ false
-beside-first left x y e = before-first x y e
-beside-first right x y e = before-second y x e
-
--- And for the second.
-beside-second : (side : Side) (x y : Ends) → y .empty ≡ false → beside side x y .empty ≡ false
-beside-second left x y e = before-second x y e
-beside-second right x y e = before-first y x e
-
--- A word with letters is not empty.
-alone-lettered : (side : Side) (w : Word) → 0 < length w → alone (end side w) .empty ≡ false
-alone-lettered left w h = ap (λ o. alone o .empty) (end-left w h)
-alone-lettered right w h = ap (λ o. alone o .empty) (end-right w h)
-
--- The words of children among whose words is a letter are not empty.
-along-lettered : (side : Side) (K : ℕ → Ends) (cs : List Child) → 0 < restLetters cs → along side K cs .empty ≡ false
-unfolding along restLetters
-along-lettered side K [] h = absurd (omega arith)
-along-lettered side K (c ∷ cs) h = beside-second side (K (c .state)) (beside side (alone (end side (c .after))) (along side K cs)) (go (decLt 0 (length (c .after))) (along-lettered side K cs))
-  where
-    go : Dec (0 < length (c .after)) → (0 < restLetters cs → along side K cs .empty ≡ false) → beside side (alone (end side (c .after))) (along side K cs) .empty ≡ false
-    go (yes l) more = beside-first side (alone (end side (c .after))) (along side K cs) (alone-lettered side (c .after) l)
-    go (no l) more = beside-second side (alone (end side (c .after))) (along side K cs) (more (omega arith))
-
--- The words of a rule that writes a letter are not empty.
-value-lettered : (side : Side) (K : ℕ → Ends) (r : Rule) → 0 < ruleLetters r → value side K r .empty ≡ false
-unfolding ruleLetters
-value-lettered side K r h = go (decLt 0 (length (r .first)))
-  where
-    go : Dec (0 < length (r .first)) → value side K r .empty ≡ false
-    go (yes l) = beside-first side (alone (end side (r .first))) (along side K (r .rest)) (alone-lettered side (r .first) l)
-    go (no l) = beside-second side (alone (end side (r .first))) (along side K (r .rest)) (along-lettered side K (r .rest) (omega arith))
-
--- ---- joins that change nothing
--- A summary with several letters is not changed by words of which none is empty.
-join-lettered : (x y : Ends) → x .letters ≡ several → y .empty ≡ false → join x y ≡ x
-join-lettered x y e f = λ i. record { empty = (ap (λ b. x .empty || b) f ∙ off (x .empty)) i; letters = (ap (λ l. both l (y .letters)) e ∙ sym e) i }
-  where
-    off : (b : Bool) → b || false ≡ b
+    off : (b : Bool) → b && false ≡ false
     off true = refl
     off false = refl
 
--- A summary with several letters and the empty word is not changed by any words.
-pub join-full : (x y : Ends) → x .letters ≡ several → x .empty ≡ true → join x y ≡ x
-join-full x y e f = λ i. record { empty = (ap (λ b. b || y .empty) f ∙ sym f) i; letters = (ap (λ l. both l (y .letters)) e ∙ sym e) i }
+-- A summary with several letters is not changed by words, if it has the empty word where they have it.
+join-several : (x y : Ends) → x .letters ≡ several → (y .empty ≡ true → x .empty ≡ true) → join x y ≡ x
+join-several x y e f = λ i. record { empty = go (x .empty) (y .empty) f i; letters = (ap (λ l. both l (y .letters)) e ∙ sym e) i }
+  where
+    go : (a b : Bool) → (b ≡ true → a ≡ true) → a || b ≡ a
+    go true b h = refl
+    go false false h = refl
+    go false true h = sym (h refl)
 
--- A rule adds nothing to a summary that has all that it can add.
-pub join-sated : (side : Side) (K : ℕ → Ends) (r : Rule) (x : Ends) → Sated (ruleLetters r) x → join x (value side K r) ≡ x
-join-sated side K r x s = ⊎-elim (λ e. join-full x (value side K r) (s .many) e) (λ h. join-lettered x (value side K r) (s .many) (value-lettered side K r h)) (s .full)
+module _ (M : Table) (side : Side) where
+  -- A rule has the empty word only where it is told of the rule's state.
+  empty-ready : (k : ℕ → Ends) → Ready M side k → (q f : ℕ) (r : Rule) → find (M .rows) q f ≡ some r → value side k r .empty ≡ true → k q .empty ≡ true
+  empty-ready k R q f r found e =
+      let s = value-shown M side k (R .0) q f r found .empty e in
+      R .1 q (subst (Holds (L M q)) (end-empty side (s .0) (s .2)) (s .1))
+
+  -- No rule adds anything to a state with several letters.
+  pub several-rests : (xs : List ℕ) → Ready M side (at (summaries xs)) → (q f : ℕ) (r : Rule) → find (M .rows) q f ≡ some r → K xs q .letters ≡ several → visit side (rowOf q f r) (summaries xs) ≡ summaries xs
+  several-rests xs R q f r found e = sym (visit-none side q f r xs (join-several (K xs q) (value side (K xs) r) e (empty-ready (K xs) (subst (Ready M side) (summary-all xs) R) q f r found)))
+
+  -- A rule leaves the empty words told.
+  pub visit-told : (row : Row) (vs : List Ends) → EmptyTold M (at vs) → EmptyTold M (at (visit side row vs))
+  unfolding visit
+  visit-told row vs T p h = ⊎-elim (λ e. ap (λ (x : Ends). x .empty) e ∙ T p h) (λ e. ap (λ (x : Ends). x .empty) (e .1) ∙ ap (λ b. b || value side (at vs) (row .rule) .empty) (subst (λ n. at vs n .empty ≡ true) (e .0) (T p h))) (at-set vs (row .state) (join (at vs (row .state)) (value side (at vs) (row .rule))) p)

@@ -1,32 +1,32 @@
 -- What is left when no rule adds anything: summaries that are witnessed and covering.
-use mathlib.Core.Path.{_≡_, refl, sym, ap, _∙_, subst}
+use mathlib.Core.Path.{_≡_, sym, subst}
 use mathlib.Core.List.{List}
-use mathlib.Core.Option.{some}
-use Prim.Native.Nat.{ℕ, _≤_, _<_}
+use Prim.Native.Nat.{ℕ, _<_}
 use native.Mathlib.Omega.{arith}
-use lib.ListN.{length, getD, getElem?, length-map}
-use Rattle.machine.specs.Machine.{Row, Table, RowFits}
+use lib.ListN.{length, getD, length-map}
+use Rattle.machine.specs.Machine.{Table, RowFits}
 use Rattle.machine.proofs.Find.{every-at, find-row}
 use Rattle.ends.specs.Ends.{Side, at}
 use Rattle.ends.specs.Meaning.{Witnessed, Covering, Closed}
-use Rattle.ends.proofs.Rules.{unknown-witnessed, closed-covering}
+use Rattle.ends.proofs.Rules.{closed-covering}
 use Rattle.ends.proofs.Known.{visit-settled}
 use Rattle.layout.specs.Layout.{Opened}
 use Rattle.sides.specs.Codes.{decode, K, summaries}
-use Rattle.sides.specs.Steps.{Tried, States}
-use Rattle.sides.proofs.Codes.{nothing-known}
-use Rattle.sides.proofs.Steps.{summary-at, summary-all}
+use Rattle.sides.specs.Blank.{EmptyTold}
+use Rattle.sides.specs.Steps.{Ready, Tried, States}
+use Rattle.sides.proofs.Steps.{summary-all}
 
 module _ (M : Table) (side : Side) where
-  -- Zeros claim nothing.
-  pub zeros-witnessed : (xs : List ℕ) → ((q : ℕ) → getD xs q 0 ≡ 0) → Witnessed M side (at (summaries xs))
-  zeros-witnessed xs z = subst (Witnessed M side) (λ i q. sym (summary-at xs q ∙ ap decode (z q) ∙ nothing-known) i) (unknown-witnessed M side)
+  module _ {tried : ℕ → ℕ → Type 0} {xs ys : List ℕ} {k : ℕ} (t : Tried M side tried xs ys k) where
+    -- Rules that are added to what is witnessed leave it so.
+    pub tried-witnessed : Witnessed M side (K xs) → Witnessed M side (K ys)
+    tried-witnessed W = subst (Witnessed M side) (summary-all ys) (t .keeps (subst (Witnessed M side) (sym (summary-all xs)) W))
 
-  -- Rules that are added to what is witnessed leave it so.
-  pub tried-witnessed : {tried : ℕ → ℕ → Type 0} {xs ys : List ℕ} {k : ℕ} → Tried M side tried xs ys k → Witnessed M side (at (summaries xs)) → Witnessed M side (K ys)
-  tried-witnessed {ys = ys} t W = subst (Witnessed M side) (summary-all ys) (t .keeps W)
+    -- And they leave the empty words told.
+    pub tried-told : EmptyTold M (K xs) → EmptyTold M (K ys)
+    tried-told T = subst (EmptyTold M) (summary-all ys) (t .tells (subst (EmptyTold M) (sym (summary-all xs)) T))
 
-  module _ {F I : List ℕ} (o : Opened F I M) (O : List ℕ) (n symbols : ℕ) (counted : symbols ≡ length (M .arities)) (listed : (q : ℕ) → q < M .states → (i : ℕ) × (i < n) × (getD O i 0 ≡ q)) {xs ys : List ℕ} {k : ℕ} (long : length ys ≡ 64) (t : Tried M side (States O 0 n symbols) xs ys k) (z : k ≡ 0) where
+  module _ {F I : List ℕ} (o : Opened F I M) (O : List ℕ) (n symbols : ℕ) (counted : symbols ≡ length (M .arities)) (listed : (q : ℕ) → q < M .states → (i : ℕ) × (i < n) × (getD O i 0 ≡ q)) {xs ys : List ℕ} {k : ℕ} (long : length ys ≡ 64) (t : Tried M side (States O 0 n symbols) xs ys k) (z : k ≡ 0) (R : Ready M side (K xs)) where
     -- No row adds anything.
     tried-closed : Closed M side (at (summaries ys))
     tried-closed i row e =
@@ -34,7 +34,7 @@ module _ (M : Table) (side : Side) where
         let place = listed (row .state) (fits .state) in
         let inside : row .state < length (summaries ys) = rw (length-map ys decode) (omega (arith, fits .state, o .limited .states, long)) in
         visit-settled side row (summaries ys) inside
-        (t .rests z (row .state) (row .symbol) (row .rule) ((place .0, omega arith, place .1, place .2), omega (arith, fits .symbol, counted)) (find-row (M .rows) (o .limited .made .rising) i row e))
+        (t .rests (subst (Ready M side) (sym (summary-all xs)) R) z (row .state) (row .symbol) (row .rule) ((place .0, omega arith, place .1, place .2), omega (arith, fits .symbol, counted)) (find-row (M .rows) (o .limited .made .rising) i row e))
 
     -- Every word fits.
     pub tried-covering : Covering M side (K ys)

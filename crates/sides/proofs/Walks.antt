@@ -8,11 +8,12 @@ use lib.ListN.{length, getD, drop}
 use Rattle.machine.specs.Machine.{Child, Rule}
 use Rattle.text.specs.Writing.{textOf, childrenText}
 use Rattle.ends.specs.Ends.{Side, left, right, end, Ends, unknown, alone, lives, before, beside, along, value, through}
-use Rattle.ends.proofs.Order.{gather, gathered}
+use Rattle.ends.proofs.Order.{blank-before, before-blank, gather, gathered}
 use Rattle.layout.specs.Layout.{ruleText}
 use Rattle.layout.specs.Leaves.{behindAt, RuleAt}
 use Rattle.layout.proofs.Stretches.{byte-behind, first-behind, child-state, child-behind}
 use Rattle.sides.specs.Codes.{decode, K, withChild}
+use Rattle.sides.proofs.Tests.{blank-alone}
 
 -- Where no word is known of a beginning, none is known of the whole.
 beside-unknown : (side : Side) (y : Ends) → beside side unknown y ≡ unknown
@@ -22,6 +23,11 @@ beside-unknown right y = go (lives y)
     go : (t : Bool) → elim (t && false) as (λ x. Ends) [ true ↦ record { empty = y .empty && false; letters = through (y .empty) (y .letters) (unknown .letters) } | false ↦ unknown ] ≡ unknown
     go true = refl
     go false = refl
+
+-- The empty word behind a beginning changes nothing.
+pub beside-blank : (side : Side) (x : Ends) → x ≡ beside side x (decode 1024)
+beside-blank left x = sym (ap (before x) blank-alone ∙ before-blank x)
+beside-blank right x = sym (ap (λ y. before y x) blank-alone ∙ blank-before x)
 
 -- The word after a child stands behind the child's state.
 pub word-bytes : (F : List ℕ) (p : ℕ) (c : Child) (cs : List Child) (b : List ℕ) → drop p F ≡ childrenText (c ∷ cs) ++ b → drop (p + 1) F ≡ textOf (c .after) ++ (childrenText cs ++ b)

@@ -1,13 +1,12 @@
 // Rules are added to the summaries of their states, until none adds anything.
 ghost use mathlib.Core.Path.{_≡_};
-ghost use mathlib.Core.Bool.{true};
 ghost use Prim.Native.Nat.{ℕ, _<_};
 ghost use lib.ListN.{length};
 ghost use Rattle.machine.specs.Machine.{Rule};
 ghost use Rattle.ends.specs.Companion.{visit};
 ghost use Rattle.layout.specs.Leaves.{PlaceOf};
-ghost use Rattle.sides.specs.Codes.{sideOf, decode, summaries};
-ghost use Rattle.sides.specs.Steps.{rowOf, Sated, Grown, Adds, OneRule, OneState, States};
+ghost use Rattle.sides.specs.Codes.{sideOf, summaries};
+ghost use Rattle.sides.specs.Steps.{rowOf, Grown, Adds, OneRule, OneState, States};
 use crate::summary::joined;
 use crate::summary::rank_of;
 use crate::value::kept;
@@ -17,22 +16,6 @@ use layout::Place;
 use layout::byte;
 use layout::rule_of;
 use layout::wide;
-
-// Whether a rule that writes so many letters can add nothing to the summary x: x has several letters, and the empty word too or the rule writes a letter.
-fn adds_nothing(letters: usize, x: u16) -> bool
-    ensures { λ r. ⌜ (r ≡ true → Sated letters (decode x)) ⌝ }
-{
-    if x % 1024 < 257 {
-        return false;
-    }
-    if 1024 <= x {
-        return true;
-    }
-    if 0 < letters {
-        return true;
-    }
-    false
-}
 
 // Joins the summary of a rule of state q into that of q, and says how much that added.
 fn add_rule(frames: &[u8], place: Place, q: usize, side: u8, values: &mut [u16]) -> usize
@@ -44,9 +27,6 @@ fn add_rule(frames: &[u8], place: Place, q: usize, side: u8, values: &mut [u16])
         return 0;
     }
     let old = values[q];
-    if adds_nothing(place.letters, old) {
-        return 0;
-    }
     let new = joined(old, rule_value(frames, place.at, place.kids, side, values));
     if new == old {
         return 0;
@@ -66,7 +46,7 @@ fn add_at(frames: &[u8], index: &[u64], q: usize, f: usize, side: u8, values: &m
     }
 }
 
-// Adds the rules of state q in turn. There is nothing to add to 1281: several letters and the empty word.
+// Adds the rules of state q in turn, until it has several letters: where the empty word is told already, nothing more can be added.
 fn add_state(
     frames: &[u8],
     index: &[u64],
@@ -79,12 +59,12 @@ fn add_state(
     ensures { λ k. ⌜ Grown (now (values .entry)) (now (values .exit)) k ⌝ }
     ensures { λ k. ⌜ Adds (now (frames .entry)) (now (index .entry)) (sideOf side) (OneState q symbols) (now (values .entry)) (now (values .exit)) k ⌝ }
 {
-    if kept(values, q) == 1281 {
-        return 0;
-    }
     let mut f: usize = 0;
     let mut k: usize = 0;
     while f < symbols {
+        if 257 <= kept(values, q) % 1024 {
+            return k;
+        }
         k += add_at(frames, index, q, f, side, values);
         f += 1;
     }

@@ -7,6 +7,7 @@ ghost use Rattle.machine.specs.Machine.{Table};
 ghost use Rattle.ends.specs.Meaning.{Witnessed, Covering};
 ghost use Rattle.layout.specs.Layout.{Opened};
 ghost use Rattle.sides.specs.Codes.{sideOf, K};
+ghost use Rattle.sides.specs.Blank.{EmptyTold};
 use crate::adding::add_states;
 pub use summary::stuck_at;
 pub use value::kept;
@@ -16,6 +17,7 @@ mod summary;
 mod value;
 
 // The summaries of the states' words at a side (0 left, 1 right): rules are added to them, state by state, until none adds anything.
+// The empty word is told before, so that a state with several letters is finished.
 pub fn settle(
     frames: &[u8],
     index: &[u64],
@@ -25,9 +27,9 @@ pub fn settle(
     side: u8,
     values: &mut [u16],
 )
-    requires { ⌜ (length (now values) ≡ 64) × ((q : ℕ) → getD (now values) q 0 ≡ 0) ⌝ }
-    ensures { λ _. ⌜ ((M : Table) → Opened (now (frames .entry)) (now (index .entry)) M → symbols ≡ length (M .arities) → Witnessed M (sideOf side) (K (now (values .exit)))) ⌝ }
-    ensures { λ _. ⌜ ((M : Table) → Opened (now (frames .entry)) (now (index .entry)) M → symbols ≡ length (M .arities) → ((q : ℕ) → q < M .states → (i : ℕ) × (i < n) × (getD (now (order .entry)) i 0 ≡ q)) → Covering M (sideOf side) (K (now (values .exit)))) ⌝ }
+    requires { ⌜ length (now values) ≡ 64 ⌝ }
+    ensures { λ _. ⌜ ((M : Table) → Opened (now (frames .entry)) (now (index .entry)) M → symbols ≡ length (M .arities) → Witnessed M (sideOf side) (K (now (values .entry))) → Witnessed M (sideOf side) (K (now (values .exit)))) ⌝ }
+    ensures { λ _. ⌜ ((M : Table) → Opened (now (frames .entry)) (now (index .entry)) M → symbols ≡ length (M .arities) → ((q : ℕ) → q < M .states → (i : ℕ) × (i < n) × (getD (now (order .entry)) i 0 ≡ q)) → Witnessed M (sideOf side) (K (now (values .entry))) → EmptyTold M (K (now (values .entry))) → Covering M (sideOf side) (K (now (values .exit)))) ⌝ }
 {
     loop {
         let k = add_states(frames, index, symbols, order, n, side, values);

@@ -2,7 +2,7 @@
 ghost use mathlib.Core.Path.{_≡_};
 ghost use mathlib.Core.List.{List, _++_};
 ghost use Prim.Native.Nat.{ℕ, _+_, _<_};
-ghost use lib.ListN.{drop};
+ghost use lib.ListN.{getD, drop};
 ghost use Rattle.words.specs.Word.{Word};
 ghost use Rattle.text.specs.Writing.{textOf};
 ghost use Rattle.ends.specs.Ends.{alone, end, both, join, before, beside, rankOf, rank, stuck};
@@ -80,6 +80,17 @@ fn lettered(a: u8) -> u16
     a as u16 + 1
 }
 
+// The summary of the word whose length byte n, which is not 0, stands at `at`, seen from a side.
+pub fn letter_at(frames: &[u8], at: usize, n: usize, side: u8) -> u16
+    requires { ⌜ (at < 20000) × (0 < n) × (n < 256) × (n ≡ getD (now frames) at 0) ⌝ }
+    ensures { λ r. ⌜ ((w : Word) (b : List ℕ) → drop at (now (frames .entry)) ≡ textOf w ++ b → decode r ≡ alone (end (sideOf side) w)) ⌝ }
+{
+    if side == 0 {
+        return lettered(byte(frames, at + 1));
+    }
+    lettered(byte(frames, at + n))
+}
+
 // The summary of the word whose length byte stands at `at`, seen from a side.
 pub fn alone_at(frames: &[u8], at: usize, side: u8) -> u16
     requires { ⌜ at < 20000 ⌝ }
@@ -89,10 +100,7 @@ pub fn alone_at(frames: &[u8], at: usize, side: u8) -> u16
     if n == 0 {
         return 1024;
     }
-    if side == 0 {
-        return lettered(byte(frames, at + 1));
-    }
-    lettered(byte(frames, at + n))
+    letter_at(frames, at, n, side)
 }
 
 // How much a summary's letters tell.
@@ -119,15 +127,18 @@ pub fn rank_of(x: u16) -> usize
     n + 1
 }
 
-// Whether the word at `at` can be pushed to the left of a state with this summary.
+// Whether the word at `at` can be pushed to the left of a state with this summary. Mostly the summary alone says no, so the word is read last.
 pub fn stuck_at(frames: &[u8], at: usize, x: u16) -> bool
     ensures { λ r. ⌜ r ≡ stuck (decode x) (wordAt (now (frames .entry)) at) ⌝ }
 {
-    let word = stretch(frames, at);
-    if word.len() == 0 {
+    if x < 1024 {
         return false;
     }
-    if x < 1024 {
+    if 257 <= x % 1024 {
+        return false;
+    }
+    let word = stretch(frames, at);
+    if word.len() == 0 {
         return false;
     }
     if x % 1024 == 0 {

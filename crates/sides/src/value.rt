@@ -9,6 +9,7 @@ ghost use Rattle.ends.specs.Ends.{value};
 ghost use Rattle.layout.specs.Leaves.{RuleAt};
 ghost use Rattle.sides.specs.Codes.{sideOf, decode, K, withChild};
 use crate::summary::alone_at;
+use crate::summary::letter_at;
 use crate::summary::next_to;
 use layout::behind;
 use layout::byte;
@@ -21,14 +22,18 @@ pub fn kept(values: &[u16], q: usize) -> u16
     if q < values.len() { values[q] } else { 0 }
 }
 
-// The summary x of a rule's beginning, with the child at `at` and the word behind it.
+// The summary x of a rule's beginning, with the child at `at` and the word behind it. An empty word changes nothing.
 fn with_child(frames: &[u8], at: usize, side: u8, values: &[u16], x: u16) -> u16
     requires { ⌜ at < 19999 ⌝ }
     ensures { λ r. ⌜ ((c : Child) (cs : List Child) (b : List ℕ) → drop at (now (frames .entry)) ≡ childrenText (c ∷ cs) ++ b → decode r ≡ withChild (sideOf side) (now (values .entry)) c (decode x)) ⌝ }
 {
     let state = wide(byte(frames, at));
     let y = next_to(side, x, kept(values, state));
-    next_to(side, y, alone_at(frames, at + 1, side))
+    let n = wide(byte(frames, at + 1));
+    if n == 0 {
+        return y;
+    }
+    next_to(side, y, letter_at(frames, at + 1, n, side))
 }
 
 // The summary of the words of the rule with so many children whose bytes stand at `at`. Once no word is known, none will be.

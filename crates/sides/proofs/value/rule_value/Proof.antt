@@ -1,5 +1,5 @@
 -- `rule_value` meets its contract. Invariant: what is gathered, beside the children that are left, is the rule's summary.
-use mathlib.Core.Path.{_≡_, sym, ap, _∙_}
+use mathlib.Core.Path.{_≡_, ap, _∙_}
 use mathlib.Core.List.{_++_}
 use Prim.Native.Nat.{_+_, _*_, _<_}
 use native.Mathlib.Omega.{arith}

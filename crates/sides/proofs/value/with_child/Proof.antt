@@ -1,10 +1,11 @@
--- `with_child` meets its contract.
-use mathlib.Core.Path.{_∙_}
+-- `with_child` meets its contract: the word behind the child is empty, or it has an end.
+use mathlib.Core.Path.{sym, _∙_}
 use mathlib.Core.List.{_++_}
 use Prim.Native.Nat.{_+_}
 use Rattle.text.specs.Writing.{childrenText}
 use Rattle.sides.specs.Codes.{sideOf, decode}
-use Rattle.sides.proofs.Walks.{word-bytes, child-made}
+use Rattle.sides.proofs.Bytes.{blank-here}
+use Rattle.sides.proofs.Walks.{beside-blank, word-bytes, child-made}
 use borrow.Author.Needs.{needs}
 use Rattle.sides.proofs.value.with_child.Statement.{statement}
 use Rattle.sides.proofs.value.with_child.Tie as tie
@@ -21,19 +22,38 @@ kept-requires c κs = search needs
 next-to-requires : tie.Need-next-to-requires
 next-to-requires c κs = search needs
 
-add-alone-at : tie.Need-add-alone-at
-add-alone-at c = search needs
+add-byte : tie.Need-add-byte
+add-byte c = search needs
 
-alone-at-requires : tie.Need-alone-at-requires
-alone-at-requires c κs = search needs
+byte-requires-2 : tie.Need-byte-requires-2
+byte-requires-2 c κs = search needs
+
+wide-requires-2 : tie.Need-wide-requires-2
+wide-requires-2 c κs = search needs
+
+returns : tie.Need-returns
+returns c = λ k ks b e.
+    let a = c .before .before .before .before .before .before .before .before .before .args in
+    child-made (sideOf (a .side)) (a .frames .now) (a .values .now) (a .at) k ks b e (decode (a .x)) (decode (c .before .before .before .next-to .result)) (decode (c .before .before .before .next-to .result)) (c .before .before .before .before .before .wide .result) (c .before .before .before .before .kept .result) 1024
+    (c .before .before .before .before .before .wide .ensures .0 ∙ c .before .before .before .before .before .before .byte .ensures) (c .before .before .before .before .kept .ensures) (c .before .before .before .next-to .ensures)
+    (blank-here (a .frames .now) (a .at + 1) (k .after) (childrenText ks ++ b) (word-bytes (a .frames .now) (a .at) k ks b e) (sideOf (a .side)) (sym (c .before .wide2 .ensures .0 ∙ c .before .before .byte2 .ensures) ∙ c .if1 .taken))
+    (beside-blank (sideOf (a .side)) (decode (c .before .before .before .next-to .result)))
+
+add-letter-at : tie.Need-add-letter-at
+add-letter-at c = search needs
+
+letter-at-requires : tie.Need-letter-at-requires
+letter-at-requires c κs = search needs
 
 next-to-requires-2 : tie.Need-next-to-requires-2
 next-to-requires-2 c κs = search needs
 
-returns : tie.Need-returns
-returns c = λ k ks b e.
-    child-made (sideOf (c .before .before .before .before .before .before .before .before .args .side)) (c .before .before .before .before .before .before .before .before .args .frames .now) (c .before .before .before .before .before .before .before .before .args .values .now) (c .before .before .before .before .before .before .before .before .args .at) k ks b e (decode (c .before .before .before .before .before .before .before .before .args .x)) (decode (c .before .before .next-to .result)) (decode (c .next-to2 .result)) (c .before .before .before .before .wide .result) (c .before .before .before .kept .result) (c .before .alone-at .result)
-    (c .before .before .before .before .wide .ensures .0 ∙ c .before .before .before .before .before .byte .ensures) (c .before .before .before .kept .ensures) (c .before .before .next-to .ensures) (c .before .alone-at .ensures (k .after) (childrenText ks ++ b) (word-bytes (c .before .before .before .before .before .before .before .before .args .frames .now) (c .before .before .before .before .before .before .before .before .args .at) k ks b e)) (c .next-to2 .ensures)
+returns-2 : tie.Need-returns-2
+returns-2 c = λ k ks b e.
+    let a = c .before .before .before .before .before .before .before .before .before .before .before .args in
+    child-made (sideOf (a .side)) (a .frames .now) (a .values .now) (a .at) k ks b e (decode (a .x)) (decode (c .before .before .before .before .before .next-to .result)) (decode (c .next-to2 .result)) (c .before .before .before .before .before .before .before .wide .result) (c .before .before .before .before .before .before .kept .result) (c .before .letter-at .result)
+    (c .before .before .before .before .before .before .before .wide .ensures .0 ∙ c .before .before .before .before .before .before .before .before .byte .ensures) (c .before .before .before .before .before .before .kept .ensures) (c .before .before .before .before .before .next-to .ensures)
+    (c .before .letter-at .ensures (k .after) (childrenText ks ++ b) (word-bytes (a .frames .now) (a .at) k ks b e)) (c .next-to2 .ensures)
 
 pub with-child-spec : {M : Type 1} → statement M
 with-child-spec =
@@ -43,7 +63,11 @@ with-child-spec =
     wide-requires
     kept-requires
     next-to-requires
-    add-alone-at
-    alone-at-requires
+    add-byte
+    byte-requires-2
+    wide-requires-2
+    returns
+    add-letter-at
+    letter-at-requires
     next-to-requires-2
-    returns)
+    returns-2)
