@@ -7,6 +7,8 @@
 --   Sated      stuck-several, several-rests: states with several letters. visit-told: a rule leaves the empty words told
 --   Rounds     grown-.., tried-..: rules in turn
 --   Settled    tried-witnessed, tried-told, tried-covering: what is left when no rule adds anything
+--   Empty      rule-held, kept-told, blanks-witnessed: which states have the empty word
+--   Marks      ahead-.., ..-blank, marked-.., listed-..: finding them, child by child and state by state
 pub mod Codes
 pub mod Tests
 pub mod Bytes
@@ -15,3 +17,5 @@ pub mod Steps
 pub mod Sated
 pub mod Rounds
 pub mod Settled
+pub mod Empty
+pub mod Marks

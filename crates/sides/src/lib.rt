@@ -9,10 +9,12 @@ ghost use Rattle.layout.specs.Layout.{Opened};
 ghost use Rattle.sides.specs.Codes.{sideOf, K};
 ghost use Rattle.sides.specs.Blank.{EmptyTold};
 use crate::adding::add_states;
+pub use blank::blanks;
 pub use summary::stuck_at;
 pub use value::kept;
 
 mod adding;
+mod blank;
 mod summary;
 mod value;
 
