@@ -1,5 +1,5 @@
 -- Laws of the form of an opened table:
---   Room       wrote-none, wrote-then, wrote-as: writing in pieces. wrote-filled: what fits comes first, and the rest of the room is unchanged. hex-append, digit-low, digit-high: digits
+--   Room       wrote-none, wrote-then, wrote-as: writing in pieces. wrote-filled: what fits comes first, and the rest of the room is unchanged. wrote-digits, hex-append, digit-plain: digits
 --   Written    wrote-text, copied-none, copied-more, copied-all, row-line, symbols-line, initial-line: words, children and lines, as they are written
 --   Below      rows-below: the rows of a state are found by looking up one symbol after the other
 --   Frames     children-there, states-there, row-there: what is read from the bytes is the table's. rule-found, rules-more, states-more: the lines of rules and states

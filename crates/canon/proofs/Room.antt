@@ -1,13 +1,15 @@
 -- Writing into a room in pieces, and hexadecimal digits in pieces.
 use mathlib.Core.Path.{_≡_, refl, sym, ap, subst, _∙_}
+use mathlib.Core.Bool.{Bool, true, false}
 use mathlib.Core.List.{List, [], _∷_, _++_}
-use Prim.Native.Nat.{ℕ, suc, _+_, _-_, _*_, _<_, _≤_}
+use Prim.Native.Nat.{ℕ, suc, _+_, _-_, _*_, _/_, _%_, _<_, _≤_}
 use native.Mathlib.Nat.{add-zero}
 use native.Mathlib.Numerals.{add-one}
 use native.Mathlib.Omega.{arith}
+use lib.Dec.{ltb}
 use lib.ListN.{length, getD, set, take, drop, length-append}
 use lib.Seq.{sets, sets-eq, set-out, take-suc, take-all}
-use borrow.Author.Tests.{lt-ltb, le-ltb}
+use borrow.Author.Tests.{ltb-true, ltb-false}
 use Rattle.text.specs.Lines.{digitOf, hexOf, lineOf}
 use Rattle.canon.specs.Room.{Wrote}
 
@@ -23,13 +25,14 @@ sets-append (u ∷ us) vs l i = sets-append us vs (set l i u) (suc i) ∙ ap (λ
 pub wrote-none : (R : List ℕ) (at : ℕ) → Wrote R at [] R at
 wrote-none R at = record { bytes = refl; end = omega arith }
 
--- A byte that has a place is written there.
-pub wrote-inside : (R : List ℕ) (at b : ℕ) → Wrote R at (b ∷ []) (set R at b) (at + 1)
-wrote-inside R at b = record { bytes = refl; end = omega arith }
-
--- A byte that has none is left out.
+-- A byte that has no place is left out.
 pub wrote-outside : (R : List ℕ) (at b : ℕ) → length R ≤ at → Wrote R at (b ∷ []) R (at + 1)
 wrote-outside R at b h = record { bytes = sym (set-out R at b h); end = omega arith }
+
+-- Two digits are written at their places.
+pub wrote-digits : (R : List ℕ) (at h l b : ℕ) → h ≡ digitOf (b / 16) → l ≡ digitOf (b % 16) → Wrote R at (hexOf (b ∷ [])) (set (set R at h) (at + 1) l) (at + 2)
+unfolding hexOf
+wrote-digits R at h l b e d = record { bytes = λ i. set (set R at (e i)) (add-one at i) (d i); end = omega arith }
 
 -- Bytes are written behind bytes.
 pub wrote-then : {R us S vs T : List ℕ} {a b c : ℕ} → Wrote R a us S b → Wrote S b vs T c → Wrote R a (us ++ vs) T c
@@ -65,14 +68,14 @@ line-ends frame = refl
 pub hex-more : (bs : List ℕ) (i : ℕ) → i < length bs → hexOf (take i bs) ++ hexOf (getD bs i 0 ∷ []) ≡ hexOf (take (i + 1) bs)
 hex-more bs i h = sym (hex-append (take i bs) (getD bs i 0 ∷ [])) ∙ ap hexOf (sym (take-suc bs i 0 h)) ∙ ap (λ (k : ℕ). hexOf (take k bs)) (sym (add-one i))
 
--- The digit of a value below 10, and of one from 10 on.
-pub digit-low : (v : ℕ) → v < 10 → 48 + v ≡ digitOf v
+-- The digit of a value, without a test.
+pub digit-plain : (v : ℕ) → v < 16 → v + 48 + (v + 6) / 16 * 39 ≡ digitOf v
 unfolding digitOf
-digit-low v h = rw (lt-ltb v 10 h, digitOf)
-
-pub digit-high : (v : ℕ) → 10 ≤ v → 97 + (v - 10) ≡ digitOf v
-unfolding digitOf
-digit-high v h = rw (le-ltb v 10 h, digitOf)
+digit-plain v h = go (ltb v 10) refl
+  where
+    go : (t : Bool) → ltb v 10 ≡ t → v + 48 + (v + 6) / 16 * 39 ≡ elim t [ true ↦ 0x30 + v | false ↦ 0x61 + (v - 10) ]
+    go true e = omega (arith, ltb-true v 10 e)
+    go false e = omega (arith, ltb-false v 10 e)
 
 -- The digits of all bytes.
 pub hex-all : (bs : List ℕ) (i : ℕ) → length bs ≤ i → hexOf (take i bs) ≡ hexOf bs

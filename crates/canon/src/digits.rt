@@ -15,12 +15,12 @@ pub fn narrow(x: usize) -> u8
     if x < 256 { x as u8 } else { 255 }
 }
 
-// The digit of a value below 16.
+// The digit of a value below 16. From 10 on the letters begin, 39 behind the digits; v + 6 reaches 16 there.
 pub fn digit(v: u8) -> u8
     requires { ⌜ v < 16 ⌝ }
     ensures { λ r. ⌜ r ≡ digitOf v ⌝ }
 {
-    if v < 10 { 48 + v } else { 97 + (v - 10) }
+    v + 48 + (v + 6) / 16 * 39
 }
 
 // Writes a byte into the room if it has a place there.
@@ -35,8 +35,18 @@ pub fn put(room: &mut [u8], at: usize, b: u8) -> usize
     at + 1
 }
 
-// Writes a byte as two digits.
-pub fn put_byte(room: &mut [u8], at: usize, b: u8) -> usize
+// Writes a byte as two digits that have their places in the room.
+pub fn put_inside(room: &mut [u8], at: usize, b: u8) -> usize
+    requires { ⌜ (at + 2 ≤ length (now room)) × (at + 2 < 1000000000) ⌝ }
+    ensures { λ r. ⌜ Wrote (now (room .entry)) at (hexOf (b ∷ [])) (now (room .exit)) r × (r ≡ at + 2) ⌝ }
+{
+    room[at] = digit(b / 16);
+    room[at + 1] = digit(b % 16);
+    at + 2
+}
+
+// Writes a byte as two digits, each if it has a place in the room.
+fn put_across(room: &mut [u8], at: usize, b: u8) -> usize
     requires { ⌜ at + 2 < 1000000000 ⌝ }
     ensures { λ r. ⌜ Wrote (now (room .entry)) at (hexOf (b ∷ [])) (now (room .exit)) r × (r ≡ at + 2) ⌝ }
 {
@@ -44,8 +54,19 @@ pub fn put_byte(room: &mut [u8], at: usize, b: u8) -> usize
     put(room, next, digit(b % 16))
 }
 
-// Writes bytes as two digits each.
-pub fn put_hex(bytes: &[u8], room: &mut [u8], at: usize) -> usize
+// Writes a byte as two digits.
+pub fn put_byte(room: &mut [u8], at: usize, b: u8) -> usize
+    requires { ⌜ at + 2 < 1000000000 ⌝ }
+    ensures { λ r. ⌜ Wrote (now (room .entry)) at (hexOf (b ∷ [])) (now (room .exit)) r × (r ≡ at + 2) ⌝ }
+{
+    if room.len() < at + 2 {
+        return put_across(room, at, b);
+    }
+    put_inside(room, at, b)
+}
+
+// Writes bytes as two digits each, each byte if it has a place in the room.
+fn put_hex_across(bytes: &[u8], room: &mut [u8], at: usize) -> usize
     requires { ⌜ at + 2 * length (now bytes) + 2 < 1000000000 ⌝ }
     ensures { λ r. ⌜ Wrote (now (room .entry)) at (hexOf (now (bytes .entry))) (now (room .exit)) r × (r ≡ at + 2 * length (now (bytes .entry))) ⌝ }
 {
@@ -53,6 +74,23 @@ pub fn put_hex(bytes: &[u8], room: &mut [u8], at: usize) -> usize
     let mut end = at;
     while i < bytes.len() {
         end = put_byte(room, end, bytes[i]);
+        i += 1;
+    }
+    end
+}
+
+// Writes bytes as two digits each. Where all have their places no byte asks for its own.
+pub fn put_hex(bytes: &[u8], room: &mut [u8], at: usize) -> usize
+    requires { ⌜ at + 2 * length (now bytes) + 2 < 1000000000 ⌝ }
+    ensures { λ r. ⌜ Wrote (now (room .entry)) at (hexOf (now (bytes .entry))) (now (room .exit)) r × (r ≡ at + 2 * length (now (bytes .entry))) ⌝ }
+{
+    if room.len() < at + 2 * bytes.len() {
+        return put_hex_across(bytes, room, at);
+    }
+    let mut i = 0;
+    let mut end = at;
+    while i < bytes.len() {
+        end = put_inside(room, end, bytes[i]);
         i += 1;
     }
     end

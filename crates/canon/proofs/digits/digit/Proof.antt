@@ -1,5 +1,5 @@
--- `digit` meets its contract.
-use Rattle.canon.proofs.Room.{digit-low, digit-high}
+-- `digit` meets its contract: no digit is a case of its own.
+use Rattle.canon.proofs.Room.{digit-plain}
 use borrow.Author.Needs.{needs}
 use Rattle.canon.proofs.digits.digit.Statement.{statement}
 use Rattle.canon.proofs.digits.digit.Tie as tie
@@ -10,11 +10,14 @@ add-result c = search needs
 add-result-2 : tie.Need-add-result-2
 add-result-2 c = search needs
 
-returns : tie.Need-returns
-returns c = digit-low (c .before .args .v) (c .if1 .taken)
+mul-result : tie.Need-mul-result
+mul-result c = search needs
 
-returns-2 : tie.Need-returns-2
-returns-2 c = digit-high (c .before .args .v) (c .if1 .left)
+add-result-3 : tie.Need-add-result-3
+add-result-3 c = search needs
+
+returns : tie.Need-returns
+returns c = digit-plain (c .args .v) (c .pre)
 
 pub digit-spec : {M : Type 1} → statement M
-digit-spec = tie.close (tie.spec add-result add-result-2 returns returns-2)
+digit-spec = tie.close (tie.spec add-result add-result-2 mul-result add-result-3 returns)
