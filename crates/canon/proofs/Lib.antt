@@ -5,7 +5,7 @@
 --   Frames     children-there, states-there, row-there: what is read from the bytes is the table's. rule-found, rules-more, states-more: the lines of rules and states
 --   Text       form-text: the pieces are the form's text. children-in: the numbers of all child states are there
 --   Marks      met-old, met-full, met-new: meeting a state by the mark of its class. meet-append, meet-longer
---   Meeting    met-none, met-then, rule-gathered, rules-met-more: meeting the child states of a state
+--   Meeting    met-none, met-then, passed-none, passed-more, passed-all, rule-gathered, rules-met-more: meeting the child states of a state
 --   Visits     under-start, under-next, under-done: the visit step by step. numbered: the numbers that the marks tell
 --   Lengths    found-long, rules-longer, states-longer, form-long: how long the pieces are
 --   Short      form-short: the form's text is never longer than the table's. form-limited: the form is within the limits of a table

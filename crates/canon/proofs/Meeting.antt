@@ -12,7 +12,7 @@ use Rattle.layout.specs.Leaves.{behindAt, LookedUp}
 use Rattle.layout.specs.declared.Place.{Place}
 use Rattle.layout.specs.declared.Lookup.the-variants.{Found, Missing}
 use Rattle.layout.proofs.Stretches.{first-behind}
-use Rattle.canon.specs.Bytes.{placeAt, statesAt}
+use Rattle.canon.specs.Bytes.{statesAt}
 use Rattle.canon.specs.Visiting.{byRep, Listing, Met, rowOf, rowsBelow}
 use Rattle.canon.proofs.Frames.{states-there}
 use Rattle.canon.proofs.Marks.{meet-append, meet-longer}
@@ -37,29 +37,44 @@ met-then {rep} {xs} {ys} {O} {K} {P} {L} {Q} {J} {n} {m} {k} f g =
 pub met-as : {rep xs ys O K P L : List ℕ} {n m : ℕ} → xs ≡ ys → Met rep xs O K n P L m → Met rep ys O K n P L m
 met-as {rep} {xs} {ys} {O} {K} {P} {L} {n} {m} e f = subst (λ (s : List ℕ). Met rep s O K n P L m) e f
 
+-- Of the children at `from`, the states of those up to pos were met, and so many are left.
+pub record Passed (F : List ℕ) (from kids : ℕ) (rep O K : List ℕ) (n : ℕ) (P L : List ℕ) (m pos left : ℕ) : Type 0 where
+  pub states : List ℕ
+  pub met : Met rep states O K n P L m
+  pub rest : statesAt F kids from ≡ states ++ statesAt F left pos
+
 module _ (F : List ℕ) where
-  -- The child behind which so many are left stands behind the one before it.
-  pub place-next : (left pos : ℕ) → 0 < left → placeAt F left pos ≡ placeAt F (left - 1) (behindAt F (pos + 1))
-  unfolding placeAt
-  place-next zero pos h = absurd (omega arith)
-  place-next (suc n) pos h = rw sub-one
+  -- At first none was.
+  pub passed-none : (from kids : ℕ) (rep O K : List ℕ) (n : ℕ) → Passed F from kids rep O K n O K n from kids
+  passed-none from kids rep O K n = record { states = []; met = met-none rep O K n; rest = refl }
 
-  -- The child that is sought stands here.
-  pub place-here : (left pos : ℕ) → left ≤ 0 → placeAt F left pos ≡ pos
-  unfolding placeAt
-  place-here zero pos h = refl
-  place-here (suc n) pos h = absurd (omega arith)
-
-  -- No child was met.
-  pub states-none : (n p : ℕ) (rep O K : List ℕ) (c : ℕ) → n ≡ 0 → Met rep (statesAt F n p) O K c O K c
+  -- The next child's state.
+  states-next : (left pos : ℕ) → 0 < left → statesAt F left pos ≡ getD F pos 0 ∷ statesAt F (left - 1) (behindAt F (pos + 1))
   unfolding statesAt
-  states-none n p rep O K c e = met-as (ap (λ (k : ℕ). statesAt F k p) (sym e)) (met-none rep O K c)
+  states-next zero pos h = absurd (omega arith)
+  states-next (suc n) pos h = rw sub-one
 
-  -- One child more was met.
-  pub states-met-more : {rep O K P L Q J : List ℕ} {c m k : ℕ} (n s p q : ℕ) → s ≡ suc n → q ≡ getD F (placeAt F n p) 0 → Met rep (statesAt F n p) O K c P L m → Met rep (q ∷ []) P L m Q J k
-      → Met rep (statesAt F s p) O K c Q J k
+  -- Then one more was.
+  pub passed-more : {from kids n m k pos left q next : ℕ} {rep O K P L Q J : List ℕ} → Passed F from kids rep O K n P L m pos left → 0 < left → q ≡ getD F pos 0 → next ≡ behindAt F (pos + 1)
+      → Met rep (q ∷ []) P L m Q J k → Passed F from kids rep O K n Q J k next (left - 1)
+  passed-more {from} {kids} {n} {m} {k} {pos} {left} {q} {next} w h e g v =
+      record {
+        states = w .states ++ q ∷ [];
+        met = met-then (w .met) v;
+        rest = w .rest ∙ ap (λ (l : List ℕ). w .states ++ l) (states-next left pos h) ∙ sym (append-assoc (w .states) (getD F pos 0 ∷ []) (statesAt F (left - 1) (behindAt F (pos + 1))))
+            ∙ (λ i. w .states ++ sym e i ∷ [] ++ statesAt F (left - 1) (sym g i));
+      }
+
+  -- No child's state.
+  states-none : (left pos : ℕ) → left ≤ 0 → statesAt F left pos ≡ []
   unfolding statesAt
-  states-met-more n s p q e d w v = met-as (ap (λ (x : ℕ). statesAt F n p ++ x ∷ []) d ∙ ap (λ (x : ℕ). statesAt F x p) (sym e)) (met-then w v)
+  states-none zero pos h = refl
+  states-none (suc n) pos h = absurd (omega arith)
+
+  -- At last all were.
+  pub passed-all : {from kids n m pos left : ℕ} {rep O K P L : List ℕ} → Passed F from kids rep O K n P L m pos left → left ≤ 0 → Met rep (statesAt F kids from) O K n P L m
+  passed-all {from} {kids} {n} {m} {pos} {left} w h =
+      met-as (sym (w .rest ∙ ap (λ (l : List ℕ). w .states ++ l) (states-none left pos h) ∙ append-nil (w .states))) (w .met)
 
   -- The children of a rule that was found.
   pub rule-gathered : {n m : ℕ} {rep O K P L : List ℕ} (q f b : ℕ) (M : Table) (p : Place) → b ≡ behindAt F (p .at) → LookedUp F (find (M .rows) q f) (Found p)

@@ -15,15 +15,10 @@ unfoldable pub childrenAt : List ℕ → List ℕ → ℕ → ℕ → List ℕ
 childrenAt F N zero p = []
 childrenAt F N (suc n) p = getD N (getD F p 0) 0 ∷ textAt F (p + 1) ++ childrenAt F N n (behindAt F (p + 1))
 
--- Where child j of the children that stand from p on stands.
-unfoldable pub placeAt : List ℕ → ℕ → ℕ → ℕ
-placeAt F zero p = p
-placeAt F (suc j) p = placeAt F j (behindAt F (p + 1))
-
--- The states of the first n children that stand from p on, from left to right.
+-- The states of n children that stand from p on, from left to right.
 unfoldable pub statesAt : List ℕ → ℕ → ℕ → List ℕ
 statesAt F zero p = []
-statesAt F (suc n) p = statesAt F n p ++ getD F (placeAt F n p) 0 ∷ []
+statesAt F (suc n) p = getD F p 0 ∷ statesAt F n (behindAt F (p + 1))
 
 -- The frame of number i and symbol f, of the rule with n children whose bytes stand at p.
 unfoldable pub rowAt : List ℕ → List ℕ → ℕ → ℕ → ℕ → ℕ → List ℕ

@@ -3,7 +3,7 @@ ghost use mathlib.Core.Path.{_≡_};
 ghost use mathlib.Core.List.{[], _∷_};
 ghost use Prim.Native.Nat.{ℕ, _-_, _<_, _≤_};
 ghost use lib.ListN.{length, getD};
-ghost use Rattle.canon.specs.Bytes.{placeAt, statesAt};
+ghost use Rattle.canon.specs.Bytes.{statesAt};
 ghost use Rattle.canon.specs.Visiting.{Met};
 ghost use Rattle.canon.specs.Promises.{RuleMet, RulesMet, Visits};
 use crate::digits::narrow;
@@ -31,20 +31,6 @@ pub fn meet_state(rep: &[u8], q: u8, order: &mut [u8], known: &mut [u8], count: 
     count + 1
 }
 
-// The state of child j of the children that stand from `from` on.
-pub fn child(frames: &[u8], from: usize, j: usize) -> u8
-    requires { ⌜ (j < 8) × (from < 20000) ⌝ }
-    ensures { λ r. ⌜ r ≡ getD (now (frames .entry)) (placeAt (now (frames .entry)) j from) 0 ⌝ }
-{
-    let mut pos = from;
-    let mut left = j;
-    while 0 < left {
-        pos = behind(frames, pos + 1);
-        left -= 1;
-    }
-    byte(frames, pos)
-}
-
 // Meets the states of the children that stand from `from` on, from left to right.
 pub fn meet_children(
     frames: &[u8],
@@ -59,9 +45,11 @@ pub fn meet_children(
     ensures { λ r. ⌜ (r ≤ 64) × Met (now (rep .entry)) (statesAt (now (frames .entry)) kids from) (now (order .entry)) (now (known .entry)) count (now (order .exit)) (now (known .exit)) r ⌝ }
 {
     let mut n = count;
+    let mut pos = from;
     let mut left = kids;
     while 0 < left {
-        n = meet_state(rep, child(frames, from, kids - left), order, known, n);
+        n = meet_state(rep, byte(frames, pos), order, known, n);
+        pos = behind(frames, pos + 1);
         left -= 1;
     }
     n
