@@ -33,7 +33,7 @@ module _ (F N : List ℕ) where
   copied-none from kids R at = record { text = []; wrote = wrote-none R at; rest = refl }
 
   -- The next child's bytes.
-  children-next : (left pos : ℕ) → 0 < left → childrenAt F N left pos ≡ getD N (getD F pos 0) 0 ∷ textAt F (pos + 1) ++ childrenAt F N (left - 1) (behindAt F (pos + 1))
+  pub children-next : (left pos : ℕ) → 0 < left → childrenAt F N left pos ≡ getD N (getD F pos 0) 0 ∷ textAt F (pos + 1) ++ childrenAt F N (left - 1) (behindAt F (pos + 1))
   unfolding childrenAt
   children-next zero pos h = absurd (omega arith)
   children-next (suc n) pos h = rw sub-one
@@ -53,7 +53,7 @@ module _ (F N : List ℕ) where
       }
 
   -- No child's bytes.
-  children-none : (left pos : ℕ) → left ≤ 0 → childrenAt F N left pos ≡ []
+  pub children-none : (left pos : ℕ) → left ≤ 0 → childrenAt F N left pos ≡ []
   unfolding childrenAt
   children-none zero pos h = refl
   children-none (suc n) pos h = absurd (omega arith)

@@ -1,7 +1,7 @@
 -- What is written of an opened table, read from its bytes: each of these is a total function of the bytes. Definitions only.
 use mathlib.Core.List.{List, [], _∷_, _++_}
-use Prim.Native.Nat.{ℕ, zero, suc, _+_, _*_}
-use lib.ListN.{getD}
+use Prim.Native.Nat.{ℕ, zero, suc, _+_, _-_, _*_}
+use lib.ListN.{getD, take, drop}
 use Rattle.text.specs.Lines.{lineOf}
 use Rattle.text.specs.Writing.{textOf}
 use Rattle.layout.specs.Leaves.{wordAt, behindAt}
@@ -19,6 +19,15 @@ childrenAt F N (suc n) p = getD N (getD F p 0) 0 ∷ textAt F (p + 1) ++ childre
 unfoldable pub statesAt : List ℕ → ℕ → ℕ → List ℕ
 statesAt F zero p = []
 statesAt F (suc n) p = getD F p 0 ∷ statesAt F n (behindAt F (p + 1))
+
+-- Where what follows n children that stand from p on stands.
+unfoldable pub endAt : List ℕ → ℕ → ℕ → ℕ
+endAt F zero p = p
+endAt F (suc n) p = endAt F n (behindAt F (p + 1))
+
+-- The bytes from p up to e.
+abbrev pub span : List ℕ → ℕ → ℕ → List ℕ
+span F p e = take (e - p) (drop p F)
 
 -- The frame of number i and symbol f, of the rule with n children whose bytes stand at p.
 unfoldable pub rowAt : List ℕ → List ℕ → ℕ → ℕ → ℕ → ℕ → List ℕ

@@ -3,14 +3,21 @@ use mathlib.Core.Path.{_≡_}
 use mathlib.Core.List.{List, _++_, map}
 use Prim.Native.Nat.{ℕ, zero, _<_, _≤_}
 use lib.ListN.{length, getD, take, drop}
+use lib.Seq.{sets}
 use Rattle.machine.specs.Machine.{Table, find}
 use Rattle.machine.specs.Form.{Test, Decides, childStates, order, renumber, renumbered, formOf}
+use Rattle.text.specs.Lines.{hexOf}
 use Rattle.text.specs.Writing.{rowLines, writeTable}
 use Rattle.layout.specs.Layout.{Opened}
 use Rattle.layout.specs.Leaves.{headOf}
 use Rattle.layout.specs.declared.Head.{Head}
 use Rattle.canon.specs.Room.{Wrote}
+use Rattle.canon.specs.Bytes.{childrenAt, endAt, span}
 use Rattle.canon.specs.Visiting.{byRep, Listing, Met, rowOf, rowsBelow, Numbered, ChildrenIn}
+
+-- Where the digits of n children's bytes were written at `at`, the states' digits are their numbers' now.
+abbrev pub Renumbers : (F N : List ℕ) (n p at : ℕ) (S T : List ℕ) → Type 0
+Renumbers F N n p at S T = (R : List ℕ) → endAt F n p ≤ length F → S ≡ sets R at (hexOf (span F p (endAt F n p))) → T ≡ sets R at (hexOf (childrenAt F N n p))
 
 -- The line of state q and symbol f was written under number i, if there is a rule.
 abbrev pub RuleWritten : (F I N : List ℕ) (q f i : ℕ) (R : List ℕ) (at : ℕ) (S : List ℕ) (next : ℕ) → Type 0

@@ -18,6 +18,7 @@ use layout::stretch;
 mod digits;
 mod lines;
 mod meets;
+mod rows;
 mod sizes;
 
 // A number that is at most 64.

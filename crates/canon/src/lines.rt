@@ -1,65 +1,18 @@
 // The lines of the form: symbols, the initial rule, the rules of each state by rising symbol.
 ghost use Prim.Native.Nat.{_+_, _*_, _<_, _≤_};
-ghost use Rattle.text.specs.Lines.{hexOf, lineOf};
+ghost use Rattle.text.specs.Lines.{lineOf};
 ghost use Rattle.canon.specs.Room.{Wrote};
-ghost use Rattle.canon.specs.Bytes.{childrenAt, rowAt, symbolsAt, initialAt};
+ghost use Rattle.canon.specs.Bytes.{symbolsAt, initialAt};
 ghost use Rattle.canon.specs.Promises.{RuleWritten, RulesWritten, StatesWritten};
 use crate::digits::narrow;
 use crate::digits::put;
 use crate::digits::put_byte;
 use crate::digits::put_text;
+use crate::rows::put_row;
 use layout::Lookup;
-use layout::behind;
 use layout::byte;
 use layout::rule_of;
 use layout::wide;
-
-// Writes the children that stand from `from` on, each state by its number.
-pub fn put_children(
-    frames: &[u8],
-    from: usize,
-    kids: usize,
-    numbers: &[u8],
-    room: &mut [u8],
-    at: usize,
-) -> usize
-    requires { ⌜ (kids < 8) × (from < 20000) × (at + 5000 < 1000000000) ⌝ }
-    ensures { λ r. ⌜ Wrote (now (room .entry)) at (hexOf (childrenAt (now (frames .entry)) (now (numbers .entry)) kids from)) (now (room .exit)) r × (r ≤ at + 514 * kids) ⌝ }
-{
-    let mut pos = from;
-    let mut end = at;
-    let mut left = kids;
-    while 0 < left {
-        let state = wide(byte(frames, pos));
-        end = put_byte(room, end, byte(numbers, state));
-        end = put_text(frames, pos + 1, room, end);
-        pos = behind(frames, pos + 1);
-        left -= 1;
-    }
-    end
-}
-
-// Writes the line of number i and symbol f, of the rule with so many children whose bytes stand at `from`.
-pub fn put_row(
-    frames: &[u8],
-    from: usize,
-    kids: usize,
-    i: u8,
-    f: u8,
-    numbers: &[u8],
-    room: &mut [u8],
-    at: usize,
-) -> usize
-    requires { ⌜ (kids < 8) × (from < 16384) × (at + 10000 < 1000000000) ⌝ }
-    ensures { λ r. ⌜ Wrote (now (room .entry)) at (lineOf (rowAt (now (frames .entry)) (now (numbers .entry)) i f kids from)) (now (room .exit)) r × (r ≤ at + 4200) ⌝ }
-{
-    let kind = put_byte(room, at, 3);
-    let state = put_byte(room, kind, i);
-    let symbol = put_byte(room, state, f);
-    let first = put_text(frames, from, room, symbol);
-    let rest = put_children(frames, behind(frames, from), kids, numbers, room, first);
-    put(room, rest, 10)
-}
 
 // Writes the lines of the first n symbols.
 pub fn put_symbols(frames: &[u8], n: usize, room: &mut [u8], at: usize) -> usize

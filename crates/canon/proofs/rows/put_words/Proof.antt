@@ -1,10 +1,10 @@
--- `put_row` meets its contract: the pieces of the line in turn.
+-- `put_words` meets its contract: the pieces of the line in turn.
 use native.Mathlib.Omega.{arith}
 use Rattle.canon.proofs.Room.{wrote-then, wrote-as}
 use Rattle.canon.proofs.Written.{row-line, wrote-children}
 use borrow.Author.Needs.{needs}
-use Rattle.canon.proofs.lines.put_row.Statement.{statement}
-use Rattle.canon.proofs.lines.put_row.Tie as tie
+use Rattle.canon.proofs.rows.put_words.Statement.{statement}
+use Rattle.canon.proofs.rows.put_words.Tie as tie
 
 put-byte-requires : tie.Need-put-byte-requires
 put-byte-requires c κs = search needs
@@ -40,8 +40,8 @@ returns c =
       omega (arith, c .before .before .before .before .before .before .before .before .before .before .before .before .before .before .before .before .before .before .before .before .before .before .before .put-byte .ensures .1, c .before .before .before .before .before .before .before .before .before .before .before .before .before .before .before .before .before .before .before .put-byte2 .ensures .1, c .before .before .before .before .before .before .before .before .before .before .before .before .before .before .before .put-byte3 .ensures .1, c .before .before .before .before .before .before .before .before .before .before .before .put-text .ensures .1, c .before .before .before .before .before .before .put-children .ensures .1, c .before .before .put .ensures .end, c .before .before .before .before .before .before .before .before .before .before .before .before .before .before .before .before .before .before .before .before .before .before .before .before .before .before .before .before .pre),
     )
 
-pub put-row-spec : {M : Type 1} → statement M
-put-row-spec =
+pub put-words-spec : {M : Type 1} → statement M
+put-words-spec =
     tie.close
     (tie.spec
     put-byte-requires

@@ -5,8 +5,8 @@ use native.Mathlib.Omega.{arith}
 use lib.ListN.{length, getD}
 use Rattle.canon.proofs.Written.{Copied, copied-none, copied-more, copied-all}
 use borrow.Author.Needs.{needs}
-use Rattle.canon.proofs.lines.put_children.Statement.{statement}
-use Rattle.canon.proofs.lines.put_children.Tie as tie
+use Rattle.canon.proofs.rows.put_children.Statement.{statement}
+use Rattle.canon.proofs.rows.put_children.Tie as tie
 
 abbrev Inv-loop : tie.InvT-loop
 Inv-loop frames from kids numbers room₀ at pos₀ end₀ left₀ room pos end left = Copied frames numbers from kids room₀ at room end pos left × (left ≤ kids) × (pos + 257 * left ≤ from + 257 * kids) × (end + 514 * left ≤ at + 514 * kids) × (length room ≡ length room₀)
