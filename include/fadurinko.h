@@ -99,7 +99,8 @@ uint8_t fadurinko_open(const uint8_t *text, size_t text_length, uint8_t *frames,
 uint8_t fadurinko_find(const uint8_t *frames, const uint64_t *index, const size_t *head,
                        const uint8_t *tree, size_t tree_length, uint32_t *plan, uint8_t *room,
                        size_t room_length, size_t *count, size_t *terms);
-uint8_t fadurinko_judge_opened(const uint8_t *frames, const size_t *head, size_t *place);
+uint8_t fadurinko_judge_opened(const uint8_t *frames, const uint64_t *index, const size_t *head,
+                               size_t *place);
 
 /* ---- The calls to use. A null text, tree or room is taken for an empty one if its length is 0. */
 
@@ -179,7 +180,7 @@ static inline uint8_t fadurinko_find_in(fadurinko_table *table, const uint8_t *t
 /* Whether an open table is earliest (no: 13 to 18). Yes: it is, and `place` is 0. */
 static inline uint8_t fadurinko_judge_in(const fadurinko_table *table, size_t *place)
 {
-    return fadurinko_judge_opened(table->frames, table->head, place);
+    return fadurinko_judge_opened(table->frames, table->index, table->head, place);
 }
 
 #ifdef __cplusplus

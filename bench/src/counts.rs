@@ -1,4 +1,4 @@
-//! How many sweeps the judgement takes, and how many rows the classes compare: the proved loops
+//! How many passes the judgement takes, and how many rows the classes compare: the proved loops
 //! written once more with counters. Each count is printed only if these loops come to the answer of
 //! the proved call.
 
@@ -64,45 +64,96 @@ impl Side {
     }
 }
 
-/// Goes over the rows, down and up by turns, until nothing changes, and tells how often.
-fn sweeps(rules: &[Rule], mut down: bool, mut visit: impl FnMut(&Rule) -> bool) -> usize {
-    let mut count = 0;
+/// The states in the order in which they are met from the initial one.
+fn order(table: &Table) -> Vec<usize> {
+    let mut order = vec![usize::from(table.initial.state)];
+    let mut taken = 0;
+    while taken < order.len() {
+        let rules = table.rules_of(order[taken] as u8);
+        for child in rules.iter().flat_map(|rule| &rule.children) {
+            if !order.contains(&usize::from(child.state)) {
+                order.push(usize::from(child.state));
+            }
+        }
+        taken += 1;
+    }
+    order
+}
+
+/// What passes over the states leave, and how many there were and how many rules they looked into.
+struct Passes {
+    values: Vec<Ends>,
+    count: usize,
+    rules: usize,
+}
+
+/// Goes over the states, from the one that is met last on, until nothing changes. A state is passed
+/// over once `finished` says so of its summary.
+fn passes(
+    table: &Table,
+    order: &[usize],
+    values: Vec<Ends>,
+    finished: impl Fn(Ends) -> bool,
+    value: impl Fn(&Rule, &[Ends]) -> Option<Ends>,
+) -> Passes {
+    let mut passes = Passes {
+        values,
+        count: 0,
+        rules: 0,
+    };
     loop {
         let mut changed = false;
-        for at in 0..rules.len() {
-            changed |= visit(&rules[if down { rules.len() - 1 - at } else { at }]);
+        for &state in order.iter().rev() {
+            for rule in table.rules_of(state as u8) {
+                let old = passes.values[state];
+                if finished(old) {
+                    continue;
+                }
+                if let Some(found) = value(rule, &passes.values) {
+                    passes.rules += 1;
+                    let new = joined(old, found);
+                    changed |= new != old;
+                    passes.values[state] = new;
+                }
+            }
         }
-        count += 1;
-        down = !down;
+        passes.count += 1;
         if !changed {
-            return count;
+            return passes;
         }
     }
 }
 
-fn marks(table: &Table) -> (Vec<bool>, usize) {
-    let mut marks = vec![false; usize::from(table.states)];
-    marks[usize::from(table.initial.state)] = true;
-    let count = sweeps(&table.rules, false, |rule| {
-        let mut changed = false;
-        if marks[usize::from(rule.state)] {
-            for child in &rule.children {
-                changed |= !std::mem::replace(&mut marks[usize::from(child.state)], true);
-            }
-        }
-        changed
-    });
-    (marks, count)
+/// The states with the empty word: rules that write a letter are not looked into.
+fn blanks(table: &Table, order: &[usize]) -> Passes {
+    let silent = |rule: &Rule| {
+        let mut words = rule.children.iter().map(|child| &child.after);
+        rule.before.is_empty() && words.all(|word| word.is_empty())
+    };
+    passes(
+        table,
+        order,
+        vec![0; usize::from(table.states)],
+        |x| x != 0,
+        |rule, values| {
+            let all = |rule: &Rule| {
+                let mut children = rule.children.iter();
+                children.all(|child| values[usize::from(child.state)] != 0)
+            };
+            silent(rule).then(|| if all(rule) { 1024 } else { 0 })
+        },
+    )
 }
 
-fn ends(side: Side, table: &Table) -> (Vec<Ends>, usize) {
-    let mut values = vec![0; usize::from(table.states)];
-    let count = sweeps(&table.rules, true, |rule| {
-        let state = usize::from(rule.state);
-        let new = joined(values[state], side.value(rule, &values));
-        std::mem::replace(&mut values[state], new) != new
-    });
-    (values, count)
+/// The ends at a side, from what is known of the empty word on.
+fn ends(side: Side, table: &Table, order: &[usize], blanks: &[Ends]) -> Passes {
+    passes(
+        table,
+        order,
+        blanks.to_vec(),
+        |x| x % 1024 >= 257,
+        |rule, values| Some(side.value(rule, values)),
+    )
 }
 
 fn stuck(x: Ends, word: &[u8]) -> bool {
@@ -116,27 +167,29 @@ fn late(rule: &Rule, left: &[Ends]) -> bool {
         .any(|child| stuck(left[usize::from(child.state)], &child.after))
 }
 
-/// The verdict, and the sweeps for the states reached, the left ends and the right ends.
-fn judged(table: &Table) -> ((u8, usize), [usize; 3]) {
-    let (marks, reached) = marks(table);
-    let (left, lefts) = ends(Side::Left, table);
-    let (right, rights) = ends(Side::Right, table);
+/// The verdict, and the passes for the empty word, the left ends and the right ends.
+fn judged(table: &Table) -> ((u8, usize), [Passes; 3]) {
+    let order = order(table);
+    let blanks = blanks(table, &order);
+    let lefts = ends(Side::Left, table, &order, &blanks.values);
+    let rights = ends(Side::Right, table, &order, &blanks.values);
+    let (left, right) = (&lefts.values, &rights.values);
     let initial = stuck(left[usize::from(table.initial.state)], &table.initial.after);
     let faults = [
-        marks.iter().position(|mark| !mark),
+        (0..left.len()).find(|state| !order.contains(state)),
         left.iter().position(|&x| x == 0),
         left.iter().position(|&x| x < 257),
         right.iter().position(|&x| x < 257),
         initial.then_some(0),
-        table.rules.iter().position(|rule| late(rule, &left)),
+        table.rules.iter().position(|rule| late(rule, left)),
     ];
     let fault = (13..)
         .zip(faults)
         .find_map(|(number, place)| place.map(|place| (number, place)));
-    (fault.unwrap_or((0, 0)), [reached, lefts, rights])
+    (fault.unwrap_or((0, 0)), [blanks, lefts, rights])
 }
 
-fn checked_sweeps(table: &Table) -> [usize; 3] {
+fn checked_passes(table: &Table) -> [Passes; 3] {
     let (verdict, counts) = judged(table);
     let mut opened = Opened::blank();
     assert_eq!(proved::open(&shapes::text(table), &mut opened), (0, 0));
@@ -267,14 +320,19 @@ fn checked_rows(table: &Table) -> Work {
 
 /// Two tables, in the form that the page of speed takes over.
 pub fn print() {
-    println!("| 64 states, 512 rules | Sweeps: reached | Left ends | Right ends |");
-    println!("|---|---|---|---|");
+    println!("| 64 states, 512 rules | Passes: empty word | Left ends | Right ends | Rules looked into, all told |");
+    println!("|---|---|---|---|---|");
     for shaped in shapes::all()
         .iter()
         .filter(|shaped| shaped.table.states == 64)
     {
-        let [reached, left, right] = checked_sweeps(&shaped.table);
-        println!("| {} | {reached} | {left} | {right} |", shaped.shape);
+        let passes = checked_passes(&shaped.table);
+        let [blanks, lefts, rights] = passes.each_ref().map(|passes| passes.count);
+        let rules: usize = passes.iter().map(|passes| passes.rules).sum();
+        println!(
+            "| {} | {blanks} | {lefts} | {rights} | {rules} |",
+            shaped.shape
+        );
     }
     println!();
     println!("| Table | Rounds | Row comparisons | Over states squared | Rule comparisons |");

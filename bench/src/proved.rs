@@ -55,6 +55,7 @@ mod raw {
         ) -> u8;
         pub fn fadurinko_judge_opened(
             frames: *const [u8; super::FRAMES],
+            index: *const [u64; super::ENTRIES],
             head: *const [usize; 7],
             place: *mut usize,
         ) -> u8;
@@ -144,7 +145,9 @@ pub fn judge(text: &[u8]) -> (u8, usize) {
 
 pub fn judge_opened(table: &Opened) -> (u8, usize) {
     let mut place = 0;
-    let number = unsafe { raw::fadurinko_judge_opened(&*table.frames, &table.head, &mut place) };
+    let number = unsafe {
+        raw::fadurinko_judge_opened(&*table.frames, &*table.index, &table.head, &mut place)
+    };
     (number, place)
 }
 

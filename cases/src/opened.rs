@@ -72,7 +72,12 @@ impl Opened {
 
     pub fn judge(&self) -> (u8, usize) {
         let mut place = usize::MAX;
-        let number = lent::judge_opened(&self.arrays.frames, &self.arrays.head, &mut place);
+        let Arrays {
+            frames,
+            index,
+            head,
+        } = &self.arrays;
+        let number = lent::judge_opened(frames, index, head, &mut place);
         (number, place)
     }
 

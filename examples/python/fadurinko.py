@@ -42,7 +42,7 @@ _PARAMETERS = {
     "fadurinko_compare": _BYTES + _BYTES + 3 * _NUMBER,
     "fadurinko_open": _BYTES + _ARRAYS + _NUMBER,
     "fadurinko_find": _ARRAYS + _BYTES + [ctypes.POINTER(_PLAN)] + _ROOM + 2 * _NUMBER,
-    "fadurinko_judge_opened": [_ARRAYS[0], _ARRAYS[2]] + _NUMBER,
+    "fadurinko_judge_opened": _ARRAYS + _NUMBER,
 }
 for _name, _parameters in _PARAMETERS.items():
     getattr(_calls, _name).argtypes = _parameters
@@ -122,7 +122,7 @@ class Table:
     def judge(self):
         """Nothing if the table is earliest."""
         (place,) = _numbers(1)
-        number = _calls.fadurinko_judge_opened(self._arrays[0], self._arrays[2], place)
+        number = _calls.fadurinko_judge_opened(*self._arrays, place)
         if number:
             raise No(number, place.value)
 

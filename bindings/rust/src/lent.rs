@@ -84,6 +84,7 @@ mod exported {
         ) -> u8;
         pub fn fadurinko_judge_opened(
             frames: *const [u8; FRAMES],
+            index: *const [u64; ENTRIES],
             head: *const [usize; HEAD],
             place: *mut usize,
         ) -> u8;
@@ -194,7 +195,12 @@ pub fn find(
 }
 
 /// Whether an opened table is earliest.
-pub fn judge_opened(frames: &[u8; FRAMES], head: &[usize; HEAD], place: &mut usize) -> u8 {
+pub fn judge_opened(
+    frames: &[u8; FRAMES],
+    index: &[u64; ENTRIES],
+    head: &[usize; HEAD],
+    place: &mut usize,
+) -> u8 {
     // SAFETY: as in `find`.
-    unsafe { exported::fadurinko_judge_opened(frames, head, place) }
+    unsafe { exported::fadurinko_judge_opened(frames, index, head, place) }
 }

@@ -138,7 +138,7 @@ impl OpenTable {
     /// ```
     pub fn judge(&self) -> Result<(), Refusal> {
         let mut place = 0;
-        let number = lent::judge_opened(&self.frames, &self.head, &mut place);
+        let number = lent::judge_opened(&self.frames, &self.index, &self.head, &mut place);
         answered(number, place, ())
     }
 }

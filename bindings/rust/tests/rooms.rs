@@ -245,6 +245,6 @@ fn arrays_that_were_never_opened() {
         assert!(
             bytes[..GUARD] == before[..GUARD] && bytes[GUARD + room..] == before[GUARD + room..]
         );
-        lent::judge_opened(frames, &opened.2, &mut count);
+        lent::judge_opened(frames, index, &opened.2, &mut count);
     }
 }

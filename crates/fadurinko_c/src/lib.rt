@@ -228,14 +228,15 @@ pub extern "C" fn fadurinko_find(
 #[no_mangle]
 pub extern "C" fn fadurinko_judge_opened(
     frames: &[u8; 16448],
+    index: &[u64; 4096],
     head: &[usize; 7],
     place: &mut usize,
 ) -> u8
-    ensures { λ r. ⌜ ((I : List ℕ) (M : Table) → Opened (now (frames .entry)) I M → now (head .entry) ≡ numbersOf (headOf M)
+    ensures { λ r. ⌜ ((M : Table) → Opened (now (frames .entry)) (now (index .entry)) M → now (head .entry) ≡ numbersOf (headOf M)
         → JudgedLinked (λ v. verdict.Judged M v) r (now (place .exit))) ⌝ }
 {
     let h = head_of(head);
-    let judged = verdict::judge_opened(frames, h);
+    let judged = verdict::judge_opened(frames, index, h);
     match judged {
         Judgement::Earliest => {
             *place = 0;

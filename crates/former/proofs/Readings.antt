@@ -30,9 +30,9 @@ use Rattle.former.specs.declared.Formed.{Formed}
 use Rattle.former.specs.declared.Formed.the-variants as formed
 use Rattle.former.specs.Formed.{verdictOf, SymbolsTold, Answers, FormInto, textRefusal, openRefusal, lateRefusal}
 
--- The bytes F are judged v: every table that they mean with this head has this verdict.
-abbrev pub JudgedAs : List ℕ → Head → Verdict → Type 0
-JudgedAs F head v = (I : List ℕ) (M : Table) → Opened F I M → head ≡ headOf M → machine.Judged M v
+-- The bytes F and the entries I are judged v: every table that they mean with this head has this verdict.
+abbrev pub JudgedAs : List ℕ → List ℕ → Head → Verdict → Type 0
+JudgedAs F I head v = (M : Table) → Opened F I M → head ≡ headOf M → machine.Judged M v
 
 -- Every table that the bytes F and the entries I mean with this head, if it is earliest, has its form told and written.
 abbrev pub FormedAs : List ℕ → List ℕ → Head → List ℕ → List ℕ → Formed → Type 0
@@ -44,8 +44,8 @@ opens-late F I (given M) x h = absurd h
 opens-late F I (refused n p) x h = ap (λ (k : ℕ). late k (x .place)) (h .0) ∙ ap (λ (k : ℕ). late n k) (h .1)
 
 -- Where opening answers a table, its judgement is the reading's.
-opens-judged : (F I : List ℕ) (a : Reply Table) (head : Head) (v : Verdict) → Opens F I a (opening.Table head) → JudgedAs F head v → JudgedReading a v
-opens-judged F I (given M) head v h j = j I M (h .1) (h .0)
+opens-judged : (F I : List ℕ) (a : Reply Table) (head : Head) (v : Verdict) → Opens F I a (opening.Table head) → JudgedAs F I head v → JudgedReading a v
+opens-judged F I (given M) head v h j = j M (h .1) (h .0)
 opens-judged F I (refused n p) head v h j = absurd h
 
 -- Where opening answers a table, the lent bytes and entries are as many as an opened table has.
@@ -62,7 +62,7 @@ opening-late : (F I T : List ℕ) (o : Opening) (x : Refusal) → o ≡ opening.
 opening-late F I T o x e h = opens-late F I (readTable T) x (subst (λ (y : Opening). Opens F I (readTable T) y) e h)
 
 -- The judgement of an opening that is known to be a table.
-opening-judged : (F I T : List ℕ) (o : Opening) (head : Head) (v : Verdict) → o ≡ opening.Table head → Opens F I (readTable T) o → JudgedAs F head v → JudgementAnswer T v
+opening-judged : (F I T : List ℕ) (o : Opening) (head : Head) (v : Verdict) → o ≡ opening.Table head → Opens F I (readTable T) o → JudgedAs F I head v → JudgementAnswer T v
 opening-judged F I T o head v e h j = opens-judged F I (readTable T) head v (subst (λ (y : Opening). Opens F I (readTable T) y) e h) j
 
 -- The judgement call of a text that is refused.
@@ -74,7 +74,7 @@ refused-judged F I T o x r e h er =
 
 -- The judgement call of a table's text.
 pub table-judged : (F I T : List ℕ) (o : Opening) (head : Head) (j : Judgement) (r : Judged) → o ≡ opening.Table head → Opens F I (readTable T) o
-    → JudgedAs F head (opened.verdictOf j) → verdictOf r ≡ opened.verdictOf j → JudgementAnswer T (verdictOf r)
+    → JudgedAs F I head (opened.verdictOf j) → verdictOf r ≡ opened.verdictOf j → JudgementAnswer T (verdictOf r)
 table-judged F I T o head j r e h k er =
     subst (λ (v : Verdict). JudgementAnswer T v) (sym er) (opening-judged F I T o head (opened.verdictOf j) e h k)
 
@@ -93,7 +93,7 @@ refused-answers F I T R o x r e h er = late-answers T R x r (er ∙ ap openRefus
 
 -- The form call of a table's text that is not judged earliest.
 pub judged-answers : (F I T R : List ℕ) (o : Opening) (head : Head) (j : Judgement) (x : Refusal) (r : Formed) → o ≡ opening.Table head → Opens F I (readTable T) o
-    → JudgedAs F head (opened.verdictOf j) → j ≡ judgement.Late x → r ≡ lateRefusal j → Answers T R R r
+    → JudgedAs F I head (opened.verdictOf j) → j ≡ judgement.Late x → r ≡ lateRefusal j → Answers T R R r
 judged-answers F I T R o head j x r e h k ej er =
     late-answers
     T
@@ -109,10 +109,10 @@ symbols-told T M (formed.Form n s) e h = λ N d. h n s refl ∙ ap (λ (A : Tabl
 symbols-told T M (formed.Refused x) e h = tt
 
 -- The form call of an earliest table's text, by any reading of it.
-read-answers : (F I T R R′ : List ℕ) (a : Reply Table) (head : Head) (r : Formed) → readTable T ≡ a → Opens F I a (opening.Table head) → JudgedAs F head earliest
+read-answers : (F I T R R′ : List ℕ) (a : Reply Table) (head : Head) (r : Formed) → readTable T ≡ a → Opens F I a (opening.Table head) → JudgedAs F I head earliest
     → FormedAs F I head R R′ r → Answers T R R′ r
 read-answers F I T R R′ (given M) head r e h k f =
-    let j = k I M (h .1) (h .0) in
+    let j = k M (h .1) (h .0) in
     let i = f M (h .1) (h .0) (judged-earliest M .0 j) in
     let out = writeTable (i .form) in
     record {
@@ -126,7 +126,7 @@ read-answers F I T R R′ (refused n p) head r e h k f = absurd h
 
 -- The form call of an earliest table's text.
 pub form-answers : (F I T R R′ : List ℕ) (o : Opening) (head : Head) (j : Judgement) (r : Formed) → o ≡ opening.Table head → Opens F I (readTable T) o
-    → JudgedAs F head (opened.verdictOf j) → j ≡ judgement.Earliest → FormedAs F I head R R′ r → Answers T R R′ r
+    → JudgedAs F I head (opened.verdictOf j) → j ≡ judgement.Earliest → FormedAs F I head R R′ r → Answers T R R′ r
 form-answers F I T R R′ o head j r e h k ej f =
     read-answers
     F
@@ -139,5 +139,5 @@ form-answers F I T R R′ o head j r e h k ej f =
     r
     refl
     (subst (λ (y : Opening). Opens F I (readTable T) y) e h)
-    (subst (λ (y : Judgement). JudgedAs F head (opened.verdictOf y)) ej k)
+    (subst (λ (y : Judgement). JudgedAs F I head (opened.verdictOf y)) ej k)
     f

@@ -53,7 +53,7 @@ pub fn judge(text: &[u8]) -> Judged
     let Opening::Table(head) = opening else {
         return text_refusal(opening);
     };
-    judged_opened(verdict::judge_opened(&frames, head))
+    judged_opened(verdict::judge_opened(&frames, &index, head))
 }
 
 // The answers of the form call for a text that is refused, and for a table that is not earliest.
@@ -116,7 +116,7 @@ pub fn form(text: &[u8], room: &mut [u8]) -> Formed
     let Opening::Table(head) = opening else {
         return open_refusal(opening);
     };
-    let judgement = verdict::judge_opened(&frames, head);
+    let judgement = verdict::judge_opened(&frames, &index, head);
     let Judgement::Earliest = judgement else {
         return late_refusal(judgement);
     };

@@ -12,15 +12,14 @@ use lib.Dec.{eqb, leb}
 use lib.ListN.{getD, getElem?}
 use Rattle.machine.specs.Machine.{Table}
 use Rattle.ends.specs.Ends.{lives, clean, stuck, free}
-use Rattle.ends.specs.Companion.{on, least, freeRow}
+use Rattle.ends.specs.Companion.{least, freeRow}
 use Rattle.layout.specs.Leaves.{wordAt}
-use Rattle.verdict.specs.Codes.{decode, K, flags}
+use Rattle.sides.specs.Codes.{decode, K}
 use Rattle.verdict.specs.Reading.{pastAt, childrenAt, rowAt, rowEnd, rowsAt}
 use Rattle.verdict.specs.Judgement.{byNumber, passesAt}
-use Rattle.verdict.proofs.Codes.{some-lives, none-lives}
-use Rattle.verdict.proofs.Tests.{clean-from, unclean-below}
-use Rattle.verdict.proofs.Walks.{children-more, children-none}
-use Rattle.verdict.proofs.Steps.{rows-more}
+use Rattle.sides.proofs.Codes.{some-lives, none-lives}
+use Rattle.sides.proofs.Tests.{clean-from, unclean-below}
+use Rattle.verdict.proofs.Walks.{children-more, children-none, rows-more}
 
 -- ---- tests of one state
 -- A number tells of a word if it is not 0.
@@ -67,7 +66,7 @@ by-none n a b c d e f o i j k l m h =
 -- A check below 17 with another number than 13 to 16 passes every place.
 pub passes-other : (n : ℕ) (T : Table) (m xs ys : List ℕ) (p : ℕ) → (n ≡ 13 → ⊥) → (n ≡ 14 → ⊥) → (n ≡ 15 → ⊥) → (n ≡ 16 → ⊥) → n < 17 → true ≡ passesAt n T m xs ys p
 passes-other n T m xs ys p a b c d l =
-    sym (by-none n (on (flags m) p) (lives (K xs p)) (clean (K xs p)) (clean (K ys p)) (not (stuck (K xs (T .start)) (T .after))) (freeRow (K xs) (getElem? (T .rows) p)) true a b c d (λ e. omega arith) (λ e. omega arith))
+    sym (by-none n (eqb (getD m p 0) 1) (lives (K xs p)) (clean (K xs p)) (clean (K ys p)) (not (stuck (K xs (T .start)) (T .after))) (freeRow (K xs) (getElem? (T .rows) p)) true a b c d (λ e. omega arith) (λ e. omega arith))
 
 -- ---- the search
 module _ (test : ℕ → Bool) (n : ℕ) where

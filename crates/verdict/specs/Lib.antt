@@ -1,5 +1,3 @@
--- The judgement of an opened table: summaries as numbers, rows as they are read, what the steps do, what is answered.
-pub mod Codes
+-- The judgement of an opened table: rows as they are read, and what is answered.
 pub mod Reading
-pub mod Steps
 pub mod Judgement

@@ -1,11 +1,9 @@
 -- The rows and the initial rule's end as they are read from lent bytes, whatever these are. Definitions only.
-use mathlib.Core.Path.{_≡_}
 use mathlib.Core.Bool.{true, false}
 use mathlib.Core.List.{List, [], _∷_}
-use mathlib.Core.Option.{some}
-use Prim.Native.Nat.{ℕ, zero, suc, _+_, _*_, _<_}
+use Prim.Native.Nat.{ℕ, zero, suc, _+_, _*_}
 use lib.Dec.{ltb}
-use lib.ListN.{getD, getElem?}
+use lib.ListN.{getD}
 use Rattle.machine.specs.Machine.{Child, Row, Table}
 use Rattle.layout.specs.Leaves.{wordAt, behindAt}
 use Rattle.layout.specs.declared.Head.{Head}
@@ -49,14 +47,6 @@ rowEnd F p = childrenEnd F (pastAt F (p + 3)) (kidsAt F p)
 unfoldable pub rowsAt : List ℕ → ℕ → ℕ → List Row
 rowsAt F p zero = []
 rowsAt F p (suc n) = rowAt F p ∷ rowsAt F (rowEnd F p) n
-
--- The row at the i-th of the places ps.
-abbrev pub rowOf : List ℕ → List ℕ → ℕ → Row
-rowOf F ps i = rowAt F (near (getD ps i 0))
-
--- The first n of the places ps are those of the n rows that stand from p on.
-pub record Placed (F : List ℕ) (p n : ℕ) (ps : List ℕ) : Type 0 where
-  pub row : (i : ℕ) → i < n → getElem? (rowsAt F p n) i ≡ some (rowOf F ps i)
 
 -- What the judgement needs of a table, as it is read by a head.
 abbrev pub tableAt : List ℕ → Head → Table

@@ -1,22 +1,22 @@
 // The least state, or the least row, that does not pass a check.
 ghost use mathlib.Core.Path.{_≡_};
-ghost use mathlib.Core.Bool.{not};
-ghost use Prim.Native.Nat.{_<_, _≤_};
+ghost use mathlib.Core.Bool.{false, not};
+ghost use Prim.Native.Nat.{ℕ, _<_, _≤_};
 ghost use lib.ListN.{getElem?};
 ghost use Rattle.machine.specs.Machine.{Table};
 ghost use Rattle.ends.specs.Ends.{stuck, free};
 ghost use Rattle.ends.specs.Companion.{least, freeRow};
 ghost use Rattle.layout.specs.Leaves.{wordAt};
-ghost use Rattle.verdict.specs.Codes.{K};
+ghost use Rattle.sides.specs.Codes.{K};
 ghost use Rattle.verdict.specs.Reading.{rowAt, rowsAt};
-ghost use Rattle.verdict.specs.Judgement.{placeOf, passesAt};
+ghost use Rattle.verdict.specs.Judgement.{placeOf, passesAt, Firm};
 use crate::row::kids_at;
 use crate::row::past;
 use crate::row::past_row;
-use crate::summary::stuck_at;
-use crate::sweeps::kept;
 use layout::byte;
 use layout::wide;
+use sides::kept;
+use sides::stuck_at;
 
 // The least place that does not pass a check, if any.
 pub enum Fault {
@@ -81,11 +81,31 @@ fn free_row(frames: &[u8], at: usize, left: &[u16]) -> bool
     true
 }
 
+// Whether a word can be pushed through some state: one with the empty word and at most one letter.
+fn narrow(left: &[u16]) -> bool
+    ensures { λ r. ⌜ (r ≡ false → (q : ℕ) → Firm (K (now (left .entry)) q)) ⌝ }
+{
+    let mut p: usize = 0;
+    while p < left.len() {
+        let x = left[p];
+        if 1024 <= x {
+            if x % 1024 < 257 {
+                return true;
+            }
+        }
+        p += 1;
+    }
+    false
+}
+
 // The least row with a word that can be pushed to the left of the state before it.
 pub fn least_row(frames: &[u8], rows: usize, rules: usize, left: &[u16]) -> Fault
     requires { ⌜ rows ≤ 32768 ⌝ }
     ensures { λ r. ⌜ placeOf r ≡ least (λ i. freeRow (K (now (left .entry))) (getElem? (rowsAt (now (frames .entry)) rows rules) i)) rules 0 ⌝ }
 {
+    if !narrow(left) {
+        return Fault::Nowhere;
+    }
     let mut p = rows;
     let mut i: usize = 0;
     while i < rules {

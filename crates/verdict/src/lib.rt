@@ -1,8 +1,7 @@
 // The judgement of an opened table: refusals 13 to 18.
 // Nothing is asked of the lent bytes: reads are clamped, and each contract speaks of what is read.
 ghost use mathlib.Core.Path.{_≡_};
-ghost use mathlib.Core.List.{List};
-ghost use Prim.Native.Nat.{ℕ};
+ghost use Prim.Native.Nat.{_≤_};
 ghost use Rattle.machine.specs.Machine.{Table};
 ghost use Rattle.machine.specs.Verdict.{Judged};
 ghost use Rattle.ends.specs.Companion.{judgeBy};
@@ -14,21 +13,12 @@ use crate::check::Fault;
 use crate::check::least_row;
 use crate::check::least_state;
 use crate::check::start_fault;
-use crate::places::counted;
-use crate::places::find_places;
-use crate::reach::mark_all;
-use crate::reach::mark_at;
 use crate::row::clamped;
-use crate::sweeps::add_all;
 use layout::Head;
 use layout::Refusal;
 
 mod check;
-mod places;
-mod reach;
 mod row;
-mod summary;
-mod sweeps;
 
 // The judgement of a table: earliest, or the first refusal of 13 to 18 at its least place.
 pub enum Judgement {
@@ -70,19 +60,26 @@ fn first_fault(frames: &[u8], head: Head, marks: &[u8], left: &[u16], right: &[u
     Judgement::Earliest
 }
 
-// The verdict of an opened table: earliest, or the first of 13 to 18 with its least place.
-pub fn judge_opened(frames: &[u8], head: Head) -> Judgement
-    ensures { λ r. ⌜ ((I : List ℕ) (M : Table) → Opened (now (frames .entry)) I M → head ≡ headOf M → Judged M (verdictOf r)) ⌝ }
+// A number of symbols, at most 64: an opened table has no more.
+fn counted(symbols: usize) -> usize
+    ensures { λ r. ⌜ (symbols ≤ 64 → r ≡ symbols) ⌝ }
 {
-    let rules = counted(head.rules);
-    let mut places = [0u16; 512];
-    find_places(frames, clamped(head.rows), rules, &mut places);
+    if symbols < 64 { symbols } else { 64 }
+}
+
+// The verdict of an opened table: earliest, or the first of 13 to 18 with its least place.
+// The summaries are found state by state, from those that are met last on: children mostly come before their parents.
+pub fn judge_opened(frames: &[u8], index: &[u64], head: Head) -> Judgement
+    ensures { λ r. ⌜ ((M : Table) → Opened (now (frames .entry)) (now (index .entry)) M → head ≡ headOf M → Judged M (verdictOf r)) ⌝ }
+{
+    let symbols = counted(head.symbols);
     let mut marks = [0u8; 64];
-    mark_at(&mut marks, head.start);
-    mark_all(frames, &places, rules, &mut marks);
+    let mut order = [0u8; 64];
+    let n = reach::reach(frames, index, symbols, head.start, &mut marks, &mut order);
     let mut left = [0u16; 64];
-    add_all(frames, &places, rules, 0, &mut left);
-    let mut right = [0u16; 64];
-    add_all(frames, &places, rules, 1, &mut right);
+    sides::blanks(frames, index, symbols, &order, n, &mut left);
+    let mut right = left;
+    sides::settle(frames, index, symbols, &order, n, 0, &mut left);
+    sides::settle(frames, index, symbols, &order, n, 1, &mut right);
     first_fault(frames, head, &marks, &left, &right)
 }

@@ -22,16 +22,16 @@ returns c =
     let answer = c .before .before .judge-opened in
     let head = c .before .before .before .before .head-of in
     let e = c .enum-told .given .1 in
-    λ I M o numbers.
-    record { verdict = verdictOf (answer .result); answer = answer .ensures I M o (head-again M o (head .ensures) numbers); told = rw e; place = rw e }
+    λ M o numbers.
+    record { verdict = verdictOf (answer .result); answer = answer .ensures M o (head-again M o (head .ensures) numbers); told = rw e; place = rw e }
 
 returns-2 : tie.Need-returns-2
 returns-2 c =
     let answer = c .before .before .before .judge-opened in
     let head = c .before .before .before .before .before .head-of in
     let e = c .before .judged .given .1 in
-    λ I M o numbers.
-    record { verdict = verdictOf (answer .result); answer = answer .ensures I M o (head-again M o (head .ensures) numbers); told = rw e; place = rw e }
+    λ M o numbers.
+    record { verdict = verdictOf (answer .result); answer = answer .ensures M o (head-again M o (head .ensures) numbers); told = rw e; place = rw e }
 
 pub fadurinko-judge-opened-spec : {M : Type 1} → statement M
 fadurinko-judge-opened-spec =

@@ -3,7 +3,7 @@ use mathlib.Core.Path.{sym, ap, _∙_}
 use native.Mathlib.Omega.{arith}
 use lib.ListN.{getElem?}
 use Rattle.ends.specs.Companion.{least, freeRow}
-use Rattle.verdict.specs.Codes.{K}
+use Rattle.sides.specs.Codes.{K}
 use Rattle.verdict.specs.Reading.{near, rowsAt, tableAt}
 use Rattle.verdict.specs.Judgement.{passesAt, leastAt}
 use Rattle.verdict.proofs.Order.{rows-length, places-states, least-none}

@@ -4,7 +4,7 @@ use Prim.Native.Nat.{_+_, _-_, _≤_}
 use native.Mathlib.Omega.{arith}
 use Rattle.ends.specs.Ends.{stuck, free}
 use Rattle.layout.specs.Leaves.{wordAt}
-use Rattle.verdict.specs.Codes.{decode, K}
+use Rattle.sides.specs.Codes.{decode, K}
 use Rattle.verdict.specs.Reading.{pastAt, childrenAt, rowAt}
 use Rattle.verdict.proofs.Checks.{free-more, free-stuck, free-none}
 use borrow.Author.Needs.{needs}

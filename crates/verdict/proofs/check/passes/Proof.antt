@@ -3,7 +3,6 @@ use mathlib.Core.Path.{sym, ap, _∙_}
 use lib.Dec.{eqb}
 use lib.ListN.{getD}
 use Rattle.verdict.specs.Judgement.{passesAt}
-use Rattle.verdict.proofs.Marks.{flag-at}
 use Rattle.verdict.proofs.Checks.{lives-test, clean-test, passes-other}
 use borrow.Author.Needs.{needs}
 use Rattle.verdict.proofs.check.passes.Statement.{statement}
@@ -24,7 +23,7 @@ kept-requires-3 c κs = search needs
 returns : tie.Need-returns
 returns c =
     let a = c .before .before .before .before .before .args in
-    λ T. ap (λ n. eqb n 1) (c .byte .ensures) ∙ sym (flag-at (a .marks .now) (a .q)) ∙ sym (ap (λ n. passesAt n T (a .marks .now) (a .left .now) (a .right .now) (a .q)) (c .before .match .keys1))
+    λ T. ap (λ n. eqb n 1) (c .byte .ensures) ∙ sym (ap (λ n. passesAt n T (a .marks .now) (a .left .now) (a .right .now) (a .q)) (c .before .match .keys1))
 
 returns-2 : tie.Need-returns-2
 returns-2 c =

@@ -2,7 +2,7 @@
 use mathlib.Core.Path.{sym, ap, _∙_}
 use Rattle.ends.specs.Ends.{stuck}
 use Rattle.layout.specs.Leaves.{wordAt}
-use Rattle.verdict.specs.Codes.{decode, K}
+use Rattle.sides.specs.Codes.{decode, K}
 use Rattle.verdict.proofs.Checks.{start-found, start-free}
 use borrow.Author.Needs.{needs}
 use Rattle.verdict.proofs.check.start_fault.Statement.{statement}
