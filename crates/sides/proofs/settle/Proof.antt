@@ -1,6 +1,7 @@
 -- `settle` meets its contract. Invariant: what was witnessed is so still, and what was told. The measure is what is left to be known.
 use mathlib.Core.Path.{_≡_, sym, _∙_}
 use Prim.Native.Nat.{_-_}
+use native.Mathlib.Omega.{arith}
 use lib.ListN.{length}
 use Rattle.machine.specs.Machine.{Table}
 use Rattle.ends.specs.Ends.{ranks}
@@ -28,7 +29,7 @@ add-states-requires : tie.Need-add-states-requires Inv-loop μ-loop
 add-states-requires c κs = c .before .loop .inv .0
 
 loop-less : tie.Need-loop-less Inv-loop μ-loop
-loop-less c = grown-less (c .before .before .before .add-states .ensures .0) (c .before .before .before .before .before .loop .inv .0) (c .if1 .left)
+loop-less c = grown-less (c .before .before .before .add-states .ensures .0) (c .before .before .before .before .before .loop .inv .0) (λ z. omega (arith, z, c .if1 .left))
 
 loop-again : tie.Need-loop-again Inv-loop μ-loop
 loop-again c = (

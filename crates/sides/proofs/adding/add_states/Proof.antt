@@ -38,7 +38,7 @@ loop-less c = search needs
 loop-again : tie.Need-loop-again Inv-loop μ-loop
 loop-again c = (
   grown-then (c .before .before .before .before .before .before .before .loop .inv .0) (c .before .before .add-state .ensures .0),
-  λ M o. states-more (c .before .before .before .before .before .before .before .before .before .before .before .before .args .order .now) (c .before .before .before .before .before .before .before .loop .i) (c .before .before .before .before .before .before .before .before .before .before .before .before .args .n) (c .before .before .before .before .before .before .before .before .before .before .before .before .args .symbols) (c .before .before .before .before .wide .result) (c .before .before .before .before .before .before .loop-test .taken) (c .before .before .before .before .wide .ensures .0 ∙ c .before .before .before .before .before .byte .ensures) (c .before .before .before .before .before .before .before .loop .inv .1 M o) (c .before .before .add-state .ensures .0) (c .before .before .add-state .ensures .1 M o),
+  λ M o. states-more (c .before .before .before .before .before .before .before .before .before .before .before .before .args .order .now) (c .before .before .before .before .before .before .before .loop .i) (c .before .before .before .before .before .before .before .before .before .before .before .before .args .n) (c .before .before .before .before .before .before .before .before .before .before .before .before .args .symbols) (c .before .before .before .before .wide .result) (omega (arith, c .before .before .before .before .before .before .loop-test .taken)) (c .before .before .before .before .wide .ensures .0 ∙ c .before .before .before .before .before .byte .ensures) (c .before .before .before .before .before .before .before .loop .inv .1 M o) (c .before .before .add-state .ensures .0) (c .before .before .add-state .ensures .1 M o),
 )
 
 same-length : tie.Need-same-length Inv-loop μ-loop
