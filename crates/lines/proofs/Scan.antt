@@ -24,9 +24,13 @@ prepended acc (whole bs t) = whole (acc ++ bs) t
 prepended acc bad = bad
 
 -- No bytes in front change nothing.
-pub prepended-none : (s : Scanned) → s ≡ prepended [] s
+prepended-none : (s : Scanned) → s ≡ prepended [] s
 prepended-none (whole bs t) = refl
 prepended-none bad = refl
+
+-- So it is where nothing is decoded yet.
+pub prepended-begin : (T : List ℕ) (at : ℕ) → scan (drop at T) ≡ prepended [] (scan (drop (at + 2 * 0) T))
+prepended-begin T at = rw add-zero (prepended-none (scan (drop at T)))
 
 -- One byte more goes to the bytes in front.
 pub prepended-byte : (acc : List ℕ) (h l : ℕ) (s : Scanned) → prepended acc (withByte (some h) (some l) s) ≡ prepended (acc ++ (h * 16 + l) ∷ []) s
@@ -144,10 +148,10 @@ module _ {T F₀ F : List ℕ} {at used i n : ℕ} (room : 2 * used ≤ at) (tex
   decoded-closed other (Whole m next) (e, f, h, g) = rw (e, f) (decoded-whole h g)
   decoded-closed other Bad g = decoded-bad (other g)
 
-  -- One byte more.
-  pub decoded-more : (h l : ℕ) → i + 1 < length T → digit (getD T i 0) ≡ some h → digit (getD T (i + 1) 0) ≡ some l
-      → Decoded T F₀ (set F (used + n) (h * 16 + l)) at used (i + 2) (n + 1)
-  decoded-more h l k a b =
+  -- One byte more, and the place behind its digits.
+  pub decoded-more : (j h l : ℕ) → j ≡ i + 2 → i + 1 < length T → digit (getD T i 0) ≡ some h → digit (getD T (i + 1) 0) ≡ some l
+      → Decoded T F₀ (set F (used + n) (h * 16 + l)) at used j (n + 1)
+  decoded-more j h l e k a b =
       let s : scan (drop i T) ≡ withByte (some h) (some l) (scan (drop (i + 2) T)) = rw (a, b) at (scan-pair T i k (digit-feed (getD T i 0) h a)) in
       record {
         acc = d .acc ++ (h * 16 + l) ∷ [];
@@ -155,5 +159,5 @@ module _ {T F₀ F : List ℕ} {at used i n : ℕ} (room : 2 * used ≤ at) (tex
         place = omega (arith, d .place);
         inside = omega arith;
         bytes = rw (d .bytes) (filled-more F₀ (d .acc) used n (h * 16 + l) (d .long) (omega (arith, d .place)));
-        rest = d .rest ∙ ap (prepended (d .acc)) s ∙ prepended-byte (d .acc) h l (scan (drop (i + 2) T));
+        rest = rw e (d .rest ∙ ap (prepended (d .acc)) s ∙ prepended-byte (d .acc) h l (scan (drop (i + 2) T)));
       }

@@ -57,9 +57,10 @@ pub fn take_line(text: &[u8], at: usize, frames: &mut [u8], used: usize) -> Line
     ensures { λ r. ⌜ Taken (now (text .entry)) (scan (drop at (now (text .entry)))) at used (now (frames .entry)) (now (frames .exit)) r ⌝ }
 {
     let values = digit_values();
-    let mut i = at;
+    let pairs = (text.len() - at) / 2;
     let mut n: usize = 0;
-    while 1 < text.len() - i {
+    while n < pairs {
+        let i = at + 2 * n;
         let h = values[text[i] as usize];
         if 15 < h {
             return ended(text, i, n);
@@ -69,8 +70,7 @@ pub fn take_line(text: &[u8], at: usize, frames: &mut [u8], used: usize) -> Line
             return Line::Bad;
         }
         frames[used + n] = h * 16 + l;
-        i += 2;
         n += 1;
     }
-    ended(text, i, n)
+    ended(text, at + 2 * n, n)
 }
