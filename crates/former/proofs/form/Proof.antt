@@ -39,6 +39,14 @@ slice-aggregate-judge-opened c =
     let t = c .before .before .opening .given in
     opening-long (o .last .1 .0) (o .last .1 .1 .0) (a .text .now) (o .result) (t .0 .0) (t .1) (o .ensures) .0
 
+slice-aggregate-judge-opened-2 : tie.Need-slice-aggregate-judge-opened-2
+slice-aggregate-judge-opened-2 c =
+    let p = c .before .before .before .before .before .before .before in
+    let o = p .read in
+    let a = p .before .before .before .before .before .args in
+    let t = c .before .before .before .opening .given in
+    opening-long (o .last .1 .0) (o .last .1 .1 .0) (a .text .now) (o .result) (t .0 .0) (t .1) (o .ensures) .1
+
 judge-opened-requires : tie.Need-judge-opened-requires
 judge-opened-requires c κs = search needs
 
@@ -53,10 +61,10 @@ late-refusal-requires c κs = search needs
 
 returns-2 : tie.Need-returns-2
 returns-2 c =
-    let p = c .before .before .before .before .before .before .before .before .before .before in
+    let p = c .before .before .before .before .before .before .before .before .before .before .before in
     let o = p .read in
     let a = p .before .before .before .before .before .args in
-    let t = c .before .before .before .before .before .before .opening .given in
+    let t = c .before .before .before .before .before .before .before .opening .given in
     let j = c .before .before .before .judge-opened in
     let l = c .before .enum-told3 .given in
     judged-answers
@@ -77,18 +85,18 @@ returns-2 c =
 
 slice-aggregate-form-opened : tie.Need-slice-aggregate-form-opened
 slice-aggregate-form-opened c =
-    let p = c .before .before .before .before .before .before .before .before .before .before in
-    let o = p .read in
-    let a = p .before .before .before .before .before .args in
-    let t = c .before .before .before .before .before .before .opening .given in
-    opening-long (o .last .1 .0) (o .last .1 .1 .0) (a .text .now) (o .result) (t .0 .0) (t .1) (o .ensures) .0
-
-slice-aggregate-form-opened-2 : tie.Need-slice-aggregate-form-opened-2
-slice-aggregate-form-opened-2 c =
     let p = c .before .before .before .before .before .before .before .before .before .before .before in
     let o = p .read in
     let a = p .before .before .before .before .before .args in
     let t = c .before .before .before .before .before .before .before .opening .given in
+    opening-long (o .last .1 .0) (o .last .1 .1 .0) (a .text .now) (o .result) (t .0 .0) (t .1) (o .ensures) .0
+
+slice-aggregate-form-opened-2 : tie.Need-slice-aggregate-form-opened-2
+slice-aggregate-form-opened-2 c =
+    let p = c .before .before .before .before .before .before .before .before .before .before .before .before in
+    let o = p .read in
+    let a = p .before .before .before .before .before .args in
+    let t = c .before .before .before .before .before .before .before .before .opening .given in
     opening-long (o .last .1 .0) (o .last .1 .1 .0) (a .text .now) (o .result) (t .0 .0) (t .1) (o .ensures) .1
 
 form-opened-requires : tie.Need-form-opened-requires
@@ -102,7 +110,7 @@ returns-3 c =
     let formed = c .before .before in
     let earliest = formed .before .before .before .before in
     let judged = earliest .before .before in
-    let told = judged .before .before .before in
+    let told = judged .before .before .before .before in
     let opened = told .before .before .before .before in
     let a = opened .before .before .before .before .before .args in
     let f = formed .form-opened in
@@ -138,6 +146,7 @@ form-spec =
     open-refusal-requires
     returns
     slice-aggregate-judge-opened
+    slice-aggregate-judge-opened-2
     judge-opened-requires
     enum-told-2
     enum-told-3

@@ -35,6 +35,12 @@ slice-aggregate-judge-opened c =
     let t = c .before .before .opening .given in
     opening-long (o .last .1 .0) (o .last .1 .1 .0) (c .before .before .before .before .before .before .before .before .before .before .args .text .now) (o .result) (t .0 .0) (t .1) (o .ensures) .0
 
+slice-aggregate-judge-opened-2 : tie.Need-slice-aggregate-judge-opened-2
+slice-aggregate-judge-opened-2 c =
+    let o = c .before .before .before .before .before .before .before .read in
+    let t = c .before .before .before .opening .given in
+    opening-long (o .last .1 .0) (o .last .1 .1 .0) (c .before .before .before .before .before .before .before .before .before .before .before .args .text .now) (o .result) (t .0 .0) (t .1) (o .ensures) .1
+
 judge-opened-requires : tie.Need-judge-opened-requires
 judge-opened-requires c κs = search needs
 
@@ -43,12 +49,12 @@ judged-opened-requires c κs = search needs
 
 returns-2 : tie.Need-returns-2
 returns-2 c =
-    let o = c .before .before .before .before .before .before .before .before .read in
-    let t = c .before .before .before .before .opening .given in
+    let o = c .before .before .before .before .before .before .before .before .before .read in
+    let t = c .before .before .before .before .before .opening .given in
     table-judged
     (o .last .1 .0)
     (o .last .1 .1 .0)
-    (c .before .before .before .before .before .before .before .before .before .before .before .before .args .text .now)
+    (c .before .before .before .before .before .before .before .before .before .before .before .before .before .args .text .now)
     (o .result)
     (t .0 .0)
     (c .before .judge-opened .result)
@@ -70,6 +76,7 @@ judge-spec =
     text-refusal-requires
     returns
     slice-aggregate-judge-opened
+    slice-aggregate-judge-opened-2
     judge-opened-requires
     judged-opened-requires
     returns-2)
