@@ -20,7 +20,7 @@ enum-known-judged c = search needs
 returns : tie.Need-returns
 returns c =
     let answer = c .before .before .judge-opened in
-    let head = c .before .before .before .before .head-of in
+    let head = c .before .before .before .before .before .head-of in
     let e = c .enum-told .given .1 in
     λ M o numbers.
     record { verdict = verdictOf (answer .result); answer = answer .ensures M o (head-again M o (head .ensures) numbers); told = rw e; place = rw e }
@@ -28,7 +28,7 @@ returns c =
 returns-2 : tie.Need-returns-2
 returns-2 c =
     let answer = c .before .before .before .judge-opened in
-    let head = c .before .before .before .before .before .head-of in
+    let head = c .before .before .before .before .before .before .head-of in
     let e = c .before .judged .given .1 in
     λ M o numbers.
     record { verdict = verdictOf (answer .result); answer = answer .ensures M o (head-again M o (head .ensures) numbers); told = rw e; place = rw e }
