@@ -17,7 +17,7 @@ use Rattle.layout.specs.declared.Place.{Place}
 use Rattle.layout.specs.declared.Lookup.the-variants.{Found, Missing}
 use Rattle.sides.specs.Codes.{K, summaries}
 use Rattle.sides.specs.Blank.{EmptyTold}
-use Rattle.sides.specs.Steps.{rowOf, Grown, Tried, OneRule, OneState, States}
+use Rattle.sides.specs.Steps.{rowOf, Grown, Tried, OneRule, OneState, LastRules, States}
 use Rattle.sides.proofs.Codes.{letters-several}
 use Rattle.sides.proofs.Sated.{several-rests, visit-told}
 use Rattle.sides.proofs.Steps.{ranks-most}
@@ -94,20 +94,20 @@ module _ {M : Table} {side : Side} where
       }
 
   -- No symbol is tried yet.
-  pub state-none : (xs : List ℕ) (q n : ℕ) → n ≡ 0 → Tried M side (OneState q n) xs xs 0
-  state-none xs q n z = tried-none xs (λ p f r a found. absurd (omega (arith, a .1)))
+  pub state-none : (xs : List ℕ) (q n : ℕ) → Tried M side (LastRules q n n) xs xs 0
+  state-none xs q n = tried-none xs (λ p f r a found. absurd (omega (arith, a .1, a .2)))
 
-  -- One symbol more.
-  pub state-more : {xs ys zs : List ℕ} {k j q f : ℕ} → Tried M side (OneState q f) xs ys k → Grown ys zs j → Tried M side (OneRule q f) ys zs j → Tried M side (OneState q (f + 1)) xs zs (k + j)
-  state-more {q = q} {f = f} t g s = tried-then t g s (λ p e a. go p e a (ℕ-discrete e f))
+  -- One symbol more, before those that were tried.
+  pub state-more : {xs ys zs : List ℕ} {k j q f n : ℕ} → 0 < f → Tried M side (LastRules q f n) xs ys k → Grown ys zs j → Tried M side (OneRule q (f - 1)) ys zs j → Tried M side (LastRules q (f - 1) n) xs zs (k + j)
+  state-more {q = q} {f = f} {n = n} h t g s = tried-then t g s (λ p e a. go p e a (ℕ-discrete e (f - 1)))
     where
-      go : (p e : ℕ) → OneState q (f + 1) p e → Dec (e ≡ f) → OneState q f p e ⊎ OneRule q f p e
+      go : (p e : ℕ) → LastRules q (f - 1) n p e → Dec (e ≡ f - 1) → LastRules q f n p e ⊎ OneRule q (f - 1) p e
       go p e a (yes i) = inr (a .0, i)
-      go p e a (no i) = inl (a .0, omega (arith, a .1))
+      go p e a (no i) = inl (a .0, omega (arith, a .1), a .2)
 
-  -- No more symbols than there are.
-  pub state-as : {xs ys : List ℕ} {k q f n : ℕ} → f ≡ n → Tried M side (OneState q f) xs ys k → Tried M side (OneState q n) xs ys k
-  state-as {xs} {ys} {k} {q} e t = subst (λ n. Tried M side (OneState q n) xs ys k) e t
+  -- All symbols are tried.
+  pub state-done : {xs ys : List ℕ} {k q f n : ℕ} → f ≡ 0 → Tried M side (LastRules q f n) xs ys k → Tried M side (OneState q n) xs ys k
+  state-done e t = record { keeps = t .keeps; tells = t .tells; rests = λ R z p g r a found. t .rests R z p g r (a .0, omega arith, a .1) found }
 
   -- No state is tried yet.
   pub states-none : (O xs : List ℕ) (n s : ℕ) → Tried M side (States O n n s) xs xs 0

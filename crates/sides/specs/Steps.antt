@@ -44,6 +44,10 @@ OneRule q f p g = (p ≡ q) × (g ≡ f)
 abbrev pub OneState : ℕ → ℕ → ℕ → ℕ → Type 0
 OneState q n p g = (p ≡ q) × (g < n)
 
+-- One state and the symbols from i on and before n.
+abbrev pub LastRules : ℕ → ℕ → ℕ → ℕ → ℕ → Type 0
+LastRules q i n p g = (p ≡ q) × (i ≤ g) × (g < n)
+
 -- The states of an order from place i on and before place n, and the first s symbols.
 abbrev pub States : List ℕ → ℕ → ℕ → ℕ → ℕ → ℕ → Type 0
 States O i n s p g = ((j : ℕ) × (i ≤ j) × (j < n) × (getD O j 0 ≡ p)) × (g < s)

@@ -46,7 +46,8 @@ fn add_at(frames: &[u8], index: &[u64], q: usize, f: usize, side: u8, values: &m
     }
 }
 
-// Adds the rules of state q in turn, until it has several letters: where the empty word is told already, nothing more can be added.
+// Adds the rules of state q, until it has several letters: where the empty word is told already, nothing more can be added.
+// They are taken from the last symbol on, since symbols without children mostly stand last, and their words are known at once.
 fn add_state(
     frames: &[u8],
     index: &[u64],
@@ -59,14 +60,14 @@ fn add_state(
     ensures { λ k. ⌜ Grown (now (values .entry)) (now (values .exit)) k ⌝ }
     ensures { λ k. ⌜ Adds (now (frames .entry)) (now (index .entry)) (sideOf side) (OneState q symbols) (now (values .entry)) (now (values .exit)) k ⌝ }
 {
-    let mut f: usize = 0;
+    let mut f = symbols;
     let mut k: usize = 0;
-    while f < symbols {
+    while 0 < f {
         if 257 <= kept(values, q) % 1024 {
             return k;
         }
+        f -= 1;
         k += add_at(frames, index, q, f, side, values);
-        f += 1;
     }
     k
 }

@@ -1,56 +1,57 @@
--- `add_state` meets its contract. Invariant: the rules for the symbols so far were tried.
-use mathlib.Core.Path.{refl, ap}
-use Prim.Native.Nat.{_-_, _%_, _≤_}
+-- `add_state` meets its contract. Invariant: the rules for the symbols from f on were tried.
+use mathlib.Core.Path.{ap}
+use Prim.Native.Nat.{_%_}
 use native.Mathlib.Omega.{arith}
 use borrow.Author.Needs.{needs}
 use Rattle.sides.specs.Codes.{sideOf}
-use Rattle.sides.specs.Steps.{Grown, Adds, OneState}
-use Rattle.sides.proofs.Rounds.{grown-none, grown-then, grown-most, several-tried, state-none, state-more, state-as}
+use Rattle.sides.specs.Steps.{Grown, Adds, LastRules}
+use Rattle.sides.proofs.Rounds.{grown-none, grown-then, grown-most, several-tried, state-none, state-more, state-done}
 use Rattle.sides.proofs.adding.add_state.Statement.{statement}
 use Rattle.sides.proofs.adding.add_state.Tie as tie
 
 abbrev Inv-loop : tie.InvT-loop
-Inv-loop frames index symbols q side values₀ f₀ k₀ values f k = (f ≤ symbols) × Grown values₀ values k × Adds frames index (sideOf side) (OneState q f) values₀ values k
+Inv-loop frames index symbols q side values₀ f₀ k₀ values f k = Grown values₀ values k × Adds frames index (sideOf side) (LastRules q f symbols) values₀ values k
 
 abbrev μ-loop : tie.MeasureT-loop
-μ-loop frames index symbols q side values₀ f₀ k₀ values f k = symbols - f
+μ-loop frames index symbols q side values₀ f₀ k₀ values f k = f
 
 loop-holds : tie.Need-loop-holds Inv-loop μ-loop
-loop-holds c = (omega arith, grown-none (c .before .before .before .args .values .now), λ M o. state-none (c .before .before .before .args .values .now) (c .before .before .before .args .q) 0 refl)
+loop-holds c =
+    let a = c .before .before .before .args in
+    (grown-none (a .values .now), λ M o. state-none (a .values .now) (a .q) (a .symbols))
 
 kept-requires : tie.Need-kept-requires Inv-loop μ-loop
 kept-requires c κs = search needs
 
 same-length : tie.Need-same-length Inv-loop μ-loop
-same-length c = c .before .before .before .before .loop .inv .1 .long
+same-length c = c .before .before .before .before .loop .inv .0 .long
 
 returns : tie.Need-returns Inv-loop μ-loop
-returns c = (c .before .before .before .before .loop .inv .1, λ M o. several-tried (c .before .before .before .before .before .before .before .before .args .symbols) (c .before .before .before .before .loop .inv .2 M o) (omega (arith, c .if1 .taken, ap (λ m. m % 1024) (c .before .kept .ensures))))
+returns c = (c .before .before .before .before .loop .inv .0, λ M o. several-tried (c .before .before .before .before .before .before .before .before .args .symbols) (c .before .before .before .before .loop .inv .1 M o) (omega (arith, c .if1 .taken, ap (λ m. m % 1024) (c .before .kept .ensures))))
+
+sub-f : tie.Need-sub-f Inv-loop μ-loop
+sub-f c = search needs
 
 add-at-requires : tie.Need-add-at-requires Inv-loop μ-loop
 add-at-requires c κs = search needs
 
 add-k : tie.Need-add-k Inv-loop μ-loop
-add-k c = omega (arith, grown-most (grown-then (c .before .before .before .before .before .before .before .before .loop .inv .1) (c .before .before .add-at .ensures .0)) (c .before .before .before .before .before .before .before .before .before .before .before .before .pre))
-
-add-f : tie.Need-add-f Inv-loop μ-loop
-add-f c = search needs
+add-k c = omega (arith, grown-most (grown-then (c .before .before .before .before .before .before .before .before .loop .inv .0) (c .before .before .add-at .ensures .0)) (c .before .before .before .before .before .before .before .before .before .before .before .before .pre))
 
 loop-less : tie.Need-loop-less Inv-loop μ-loop
 loop-less c = search needs
 
 loop-again : tie.Need-loop-again Inv-loop μ-loop
-loop-again c = (
-  omega arith,
-  grown-then (c .before .before .before .before .before .before .before .before .loop .inv .1) (c .before .before .add-at .ensures .0),
-  λ M o. state-more (c .before .before .before .before .before .before .before .before .loop .inv .2 M o) (c .before .before .add-at .ensures .0) (c .before .before .add-at .ensures .1 M o),
-)
+loop-again c =
+    let l = c .before .before .before .before .before .before .before .before .loop in
+    let a = c .before .before .add-at in
+    (grown-then (l .inv .0) (a .ensures .0), λ M o. state-more (c .before .before .before .before .before .before .before .loop-test .taken) (l .inv .1 M o) (a .ensures .0) (a .ensures .1 M o))
 
 same-length-2 : tie.Need-same-length-2 Inv-loop μ-loop
-same-length-2 c = c .before .loop .inv .1 .long
+same-length-2 c = c .before .loop .inv .0 .long
 
 returns-2 : tie.Need-returns-2 Inv-loop μ-loop
-returns-2 c = (c .before .loop .inv .1, λ M o. state-as (omega (arith, c .before .loop .inv .0)) (c .before .loop .inv .2 M o))
+returns-2 c = (c .before .loop .inv .0, λ M o. state-done (omega arith) (c .before .loop .inv .1 M o))
 
 pub add-state-spec : {M : Type 1} → statement M
 add-state-spec =
@@ -62,9 +63,9 @@ add-state-spec =
     kept-requires
     same-length
     returns
+    sub-f
     add-at-requires
     add-k
-    add-f
     loop-less
     loop-again
     same-length-2
