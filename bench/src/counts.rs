@@ -87,8 +87,8 @@ struct Passes {
     rules: usize,
 }
 
-/// Goes over the states, from the one that is met last on, until nothing changes. A state is passed
-/// over once `finished` says so of its summary.
+/// Goes over the states, from the one that is met last on, and over the rules of each from the last
+/// one on, until nothing changes. A state is passed over once `finished` says so of its summary.
 fn passes(
     table: &Table,
     order: &[usize],
@@ -104,7 +104,7 @@ fn passes(
     loop {
         let mut changed = false;
         for &state in order.iter().rev() {
-            for rule in table.rules_of(state as u8) {
+            for rule in table.rules_of(state as u8).iter().rev() {
                 let old = passes.values[state];
                 if finished(old) {
                     continue;
