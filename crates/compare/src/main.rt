@@ -2,15 +2,14 @@
 // place.
 use desk::Input;
 use fadurinko::Compared;
-use libc::STDOUT_FILENO;
 
 fn answer(first: &[u8], second: &[u8]) {
     match fadurinko::compare(first, second) {
         Compared::Same => {
-            io::write_all(STDOUT_FILENO, b"same\n");
+            output::print(b"same\n");
         }
         Compared::Different => {
-            io::write_all(STDOUT_FILENO, b"different\n");
+            output::print(b"different\n");
         }
         Compared::Refused { table, refusal } => {
             desk::print_no(&[table as u64, refusal.number as u64, refusal.place as u64]);
@@ -18,15 +17,24 @@ fn answer(first: &[u8], second: &[u8]) {
     }
 }
 
-fn main() {
+// Reads the two files and answers.
+fn compare_files(usage: &[u8]) {
     // One byte more than a text may have, so that a longer one is seen to be too long.
     let mut first = [0u8; 32769];
-    let Input::Bytes(n) = desk::read_file(1, &mut first) else {
+    let Input::Bytes(n) = desk::read_file(1, usage, &mut first) else {
         return;
     };
     let mut second = [0u8; 32769];
-    let Input::Bytes(m) = desk::read_file(2, &mut second) else {
+    let Input::Bytes(m) = desk::read_file(2, usage, &mut second) else {
         return;
     };
-    answer(desk::front(&first, n), desk::front(&second, m));
+    answer(output::front(&first, n), output::front(&second, m));
+}
+
+fn main() {
+    let usage =
+        b"usage: compare FILE1 FILE2: two table texts; answers same, different or no TABLE NUMBER PLACE\n";
+    if desk::started_with(2, usage) {
+        compare_files(usage);
+    }
 }

@@ -1,14 +1,8 @@
-// What the programs share: reading a text, and printing a refusal.
-mod output;
+// What the programs share: reading a text, printing an answer, saying what a program wants.
+mod usage;
 
-pub use output::STOPPED;
-pub use output::flush;
-pub use output::print_no;
-pub use output::put;
-pub use output::put_all;
-pub use output::put_no;
-pub use output::put_number;
-ghost use Prim.Native.Nat.{_≤_};
+pub use usage::started_with;
+use usage::tell;
 ghost use lib.ListN.{length};
 ghost use Rattle.desk.specs.Input.{Inside};
 
@@ -47,30 +41,65 @@ pub fn read_all(fd: i32, buf: &mut [u8]) -> Input
     Input::Bytes(n)
 }
 
-// Opens the file that argument i names and reads it; says on standard error what failed.
-pub fn read_file(i: usize, buf: &mut [u8]) -> Input
+// Reads the file that argument i names; where that fails, says on standard error what failed and,
+// in the next line, what the program wants.
+pub fn read_file(i: usize, usage: &[u8], buf: &mut [u8]) -> Input
     ensures { λ r. ⌜ Inside (length (now (buf .entry))) r ⌝ }
 {
     let mut path = io::buffer();
     let n = os::arg(i, &mut path);
     if os::errno() != 0 {
-        os::fail(b"a file's name is lacking or too long");
+        os::fail(b"a file's name");
+        io::write_all(libc::STDERR_FILENO, usage);
         return Input::Failed;
     }
     let fd = os::open_read(&path[..n]);
     if fd < 0 {
         os::fail(&path[..n]);
+        io::write_all(libc::STDERR_FILENO, usage);
         return Input::Failed;
     }
     let input = read_all(fd, buf);
     if let Input::Failed = input {
         os::fail(&path[..n]);
+        io::write_all(libc::STDERR_FILENO, usage);
     }
     libc::close(fd);
     input
 }
 
-// The first n bytes of buf, or all of it where it has fewer.
-pub fn front(buf: &[u8], n: usize) -> &[u8] {
-    if n <= buf.len() { &buf[..n] } else { buf }
+// Reads standard input; says on standard error where that fails.
+fn read_standard(buf: &mut [u8]) -> Input
+    ensures { λ r. ⌜ Inside (length (now (buf .entry))) r ⌝ }
+{
+    let input = read_all(libc::STDIN_FILENO, buf);
+    if let Input::Failed = input {
+        os::fail(b"standard input");
+    }
+    input
+}
+
+// Reads the one text that a program wants: the file that its argument names or, without one,
+// standard input. Where nobody could have given a text, says what the program wants.
+pub fn read_text(usage: &[u8], buf: &mut [u8]) -> Input
+    ensures { λ r. ⌜ Inside (length (now (buf .entry))) r ⌝ }
+{
+    if os::arg_count() < 2 {
+        if libc::isatty(libc::STDIN_FILENO) != 1 {
+            return read_standard(buf);
+        }
+        tell(libc::STDERR_FILENO, usage);
+        return Input::Failed;
+    }
+    if started_with(1, usage) {
+        return read_file(1, usage, buf);
+    }
+    Input::Failed
+}
+
+// Prints a refusal by itself.
+pub fn print_no(numbers: &[u64]) {
+    let mut out = io::buffer();
+    let used = answers::put_no(numbers, &mut out, 0);
+    output::flush(&out, used);
 }

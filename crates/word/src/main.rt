@@ -1,10 +1,8 @@
 // The words of many trees under one table. `word TABLEFILE` reads the table text from the file and
 // trees from standard input, one a line in lowercase hexadecimal, and answers each with one line:
 // `word LENGTH TERMS HEX`, `no NUMBER PLACE` or `not hex`.
-mod answers;
-mod hex;
-mod line;
 mod reply;
+mod report;
 mod stream;
 
 use desk::Input;
@@ -17,15 +15,20 @@ fn answer_under(text: &[u8]) {
     stream::answer_all(opening, &frames, &index);
 }
 
-fn main() {
-    if os::arg_count() < 2 {
-        io::write_all(libc::STDERR_FILENO, b"usage: word TABLEFILE\n");
-        return;
-    }
+// Reads the table text and answers.
+fn answer_file(usage: &[u8]) {
     // One byte more than a text may have, so that a longer one is seen to be too long.
     let mut text = [0u8; 32769];
-    let Input::Bytes(n) = desk::read_file(1, &mut text) else {
+    let Input::Bytes(n) = desk::read_file(1, usage, &mut text) else {
         return;
     };
-    answer_under(desk::front(&text, n));
+    answer_under(output::front(&text, n));
+}
+
+fn main() {
+    let usage =
+        b"usage: word TABLEFILE: trees on standard input, one a line in hexadecimal; answers word LENGTH TERMS HEX, no NUMBER PLACE or not hex\n";
+    if desk::started_with(1, usage) {
+        answer_file(usage);
+    }
 }

@@ -1,9 +1,26 @@
 // Which answer a line gets.
-use crate::answers;
-use crate::line;
-use crate::line::Line;
+use finder::Found;
+use hexline::SoFar;
 use layout::Head;
+use layout::Refusal;
 use table::Opening;
+
+// Where a word, a refusal or a line that is not hexadecimal is counted: at 0, at its number, at 20.
+pub const STRANGE: usize = 20;
+
+// How many bytes wait to be written, and where the answer is counted.
+pub struct Said {
+    pub used: usize,
+    pub counted: usize,
+}
+
+// A refusal: its number and place.
+fn refused(refusal: Refusal, out: &mut [u8], used: usize) -> Said {
+    let numbers = [refusal.number as u64, refusal.place as u64];
+    let used = answers::put_no(&numbers, out, used);
+    let counted = layout::wide(refusal.number);
+    Said { used, counted }
+}
 
 // The answer to the tree of a line by an opened table.
 fn to_tree(
@@ -15,14 +32,20 @@ fn to_tree(
     room: &mut [u8],
     out: &mut [u8],
     used: usize,
-) -> usize {
-    let found = swift::find(frames, index, head, tree, plan, room);
-    answers::found(found, room, out, used)
+) -> Said {
+    match swift::find(frames, index, head, tree, plan, room) {
+        Found::Word(found) => {
+            let letters = output::front(room, found.length);
+            let used = answers::put_word(found.terms, letters, out, used);
+            Said { used, counted: 0 }
+        }
+        Found::Refused(refusal) => refused(refusal, out, used),
+    }
 }
 
 // The answer to a whole line: one that is not hexadecimal first, then a refused table.
 pub fn to_line(
-    line: Line,
+    line: SoFar,
     opening: Opening,
     frames: &[u8; 16448],
     index: &[u64; 4096],
@@ -31,13 +54,19 @@ pub fn to_line(
     room: &mut [u8],
     out: &mut [u8],
     used: usize,
-) -> usize {
-    let tree = desk::front(bytes, line.bytes);
-    if !line::is_hex(line) {
-        return answers::not_hex(out, used);
+) -> Said {
+    if !hexline::is_hex(line) {
+        let used = output::put_all(b"not hex\n", out, used);
+        return Said {
+            used,
+            counted: STRANGE,
+        };
     }
     match opening {
-        Opening::Table(head) => to_tree(head, frames, index, tree, plan, room, out, used),
-        Opening::Refused(refusal) => answers::refused(refusal, out, used),
+        Opening::Table(head) => {
+            let tree = output::front(bytes, line.bytes);
+            to_tree(head, frames, index, tree, plan, room, out, used)
+        }
+        Opening::Refused(refusal) => refused(refusal, out, used),
     }
 }

@@ -1,24 +1,49 @@
-// The lines of standard input, answered one after the other: the input is read in large pieces and
-// the answers wait in a large buffer, so memory is the same however long the input is.
-use crate::line;
-use crate::line::Line;
+// The lines of standard input, answered one after the other: the input is read in large pieces, and
+// the answers to a piece wait in a large buffer and are written before the next piece is read. So
+// memory is the same however long the input is, and no answer waits while the input pauses.
 use crate::reply;
+use crate::report;
+use crate::report::Watch;
 use desk::Input;
-use desk::STOPPED;
+use hexline::SoFar;
 use table::Opening;
 ghost use mathlib.Core.Path.{_≡_};
 ghost use lib.ListN.{length};
 
-// The line so far, how many bytes wait to be written, and whether there may be more to read.
-struct State {
-    line: Line,
+// The line so far, and how many bytes wait to be written.
+struct Answered {
+    line: SoFar,
     used: usize,
+}
+
+// The line so far, whether there may be more to read, and who looks on.
+struct State {
+    line: SoFar,
     more: bool,
+    watch: Watch,
+}
+
+// Answers a whole line and counts the answer; answers how many bytes wait to be written then.
+fn answer(
+    line: SoFar,
+    opening: Opening,
+    frames: &[u8; 16448],
+    index: &[u64; 4096],
+    tree: &[u8],
+    plan: &mut [u32; 32768],
+    room: &mut [u8],
+    out: &mut [u8],
+    counts: &mut [u64],
+    used: usize,
+) -> usize {
+    let said = reply::to_line(line, opening, frames, index, tree, plan, room, out, used);
+    answers::raise(counts, said.counted);
+    said.used
 }
 
 // Takes a piece of the input: each line that ends in it is answered.
 fn take(
-    state: State,
+    line: SoFar,
     piece: &[u8],
     opening: Opening,
     frames: &[u8; 16448],
@@ -27,22 +52,81 @@ fn take(
     plan: &mut [u32; 32768],
     room: &mut [u8],
     out: &mut [u8],
-) -> State {
-    let mut line = state.line;
-    let mut used = state.used;
+    counts: &mut [u64],
+) -> Answered {
+    let mut line = line;
+    let mut used = 0;
     let mut at = 0;
     while at < piece.len() {
-        let fed = line::feed_all(line, piece, at, tree);
+        let fed = hexline::feed_all(line, &piece[at..], tree);
         line = fed.line;
-        at = fed.next;
+        at += fed.taken;
         if at < piece.len() {
             at += 1;
-            used = reply::to_line(line, opening, frames, index, tree, plan, room, out, used);
-            line = line::start();
+            used = answer(
+                line,
+                opening,
+                frames,
+                index,
+                tree,
+                plan,
+                room,
+                out,
+                counts,
+                used,
+            );
+            line = hexline::start();
         }
     }
-    let more = used < STOPPED;
-    State { line, used, more }
+    Answered { line, used }
+}
+
+// Nothing more is read.
+fn ended(line: SoFar, watch: Watch) -> State {
+    State {
+        line,
+        more: false,
+        watch,
+    }
+}
+
+// Takes a piece of the input and writes the answers. Where these cannot be written, the line so far
+// is dropped.
+fn take_and_write(
+    line: SoFar,
+    watch: Watch,
+    piece: &[u8],
+    opening: Opening,
+    frames: &[u8; 16448],
+    index: &[u64; 4096],
+    tree: &mut [u8],
+    plan: &mut [u32; 32768],
+    room: &mut [u8],
+    out: &mut [u8],
+    counts: &mut [u64],
+) -> State {
+    let answered = take(
+        line,
+        piece,
+        opening,
+        frames,
+        index,
+        tree,
+        plan,
+        room,
+        out,
+        counts,
+    );
+    if output::flush(out, answered.used) != 0 {
+        return ended(hexline::start(), watch);
+    }
+    let watch = report::step(watch, counts);
+    let line = answered.line;
+    State {
+        line,
+        more: true,
+        watch,
+    }
 }
 
 // Reads a piece of the input and takes it. Where the input cannot be read, the line so far is dropped.
@@ -56,27 +140,31 @@ fn read_some(
     room: &mut [u8],
     piece: &mut [u8],
     out: &mut [u8],
+    counts: &mut [u64],
 ) -> State {
-    let used = state.used;
+    let watch = state.watch;
+    let line = state.line;
     let Input::Bytes(n) = desk::read_some(libc::STDIN_FILENO, piece) else {
-        os::fail(b"stdin");
-        let line = line::start();
-        return State {
-            line,
-            used,
-            more: false,
-        };
+        os::fail(b"standard input");
+        return ended(hexline::start(), watch);
     };
     if n == 0 {
-        let line = state.line;
-        return State {
-            line,
-            used,
-            more: false,
-        };
+        return ended(line, watch);
     }
-    let got = desk::front(piece, n);
-    take(state, got, opening, frames, index, tree, plan, room, out)
+    let got = output::front(piece, n);
+    take_and_write(
+        line,
+        watch,
+        got,
+        opening,
+        frames,
+        index,
+        tree,
+        plan,
+        room,
+        out,
+        counts,
+    )
 }
 
 // Reads the whole input. A proved loop has to end, and nothing says that an input does: the loop
@@ -90,22 +178,65 @@ fn read_all(
     room: &mut [u8],
     piece: &mut [u8],
     out: &mut [u8],
+    counts: &mut [u64],
 ) -> State {
-    let line = line::start();
+    let line = hexline::start();
+    let watch = report::start();
     let mut state = State {
         line,
-        used: 0,
         more: true,
+        watch,
     };
     let mut turns = u64::MAX;
     while turns > 0 && state.more {
-        state = read_some(state, opening, frames, index, tree, plan, room, piece, out);
+        state = read_some(
+            state,
+            opening,
+            frames,
+            index,
+            tree,
+            plan,
+            room,
+            piece,
+            out,
+            counts,
+        );
         turns -= 1;
     }
     state
 }
 
-// Answers each line of the input; a last one without line feed is a line too.
+// Answers a last line without line feed, where there is one.
+fn answer_last(
+    line: SoFar,
+    opening: Opening,
+    frames: &[u8; 16448],
+    index: &[u64; 4096],
+    tree: &[u8],
+    plan: &mut [u32; 32768],
+    room: &mut [u8],
+    out: &mut [u8],
+    counts: &mut [u64],
+) {
+    if !line.any {
+        return;
+    }
+    let used = answer(
+        line,
+        opening,
+        frames,
+        index,
+        tree,
+        plan,
+        room,
+        out,
+        counts,
+        0,
+    );
+    output::flush(out, used);
+}
+
+// Answers each line of the input, and says at a terminal what became of them.
 fn answer_lines(
     opening: Opening,
     frames: &[u8; 16448],
@@ -115,23 +246,20 @@ fn answer_lines(
     room: &mut [u8],
     piece: &mut [u8],
     out: &mut [u8],
+    counts: &mut [u64],
 ) {
-    let last = read_all(opening, frames, index, tree, plan, room, piece, out);
+    let last = read_all(opening, frames, index, tree, plan, room, piece, out, counts);
     let line = last.line;
-    let used = last.used;
-    if line.any {
-        let used = reply::to_line(line, opening, frames, index, tree, plan, room, out, used);
-        desk::flush(out, used);
-        return;
-    }
-    desk::flush(out, used);
+    answer_last(line, opening, frames, index, tree, plan, room, out, counts);
+    report::end(last.watch, counts);
 }
 
-// Zeros, as many as the longest word of a tree has letters.
-fn long_room() -> [u8; 5242944]
-    ensures { λ r. ⌜ 5242944 ≡ length r ⌝ }
+// Zeros, as many as the longest word of a tree has letters: a tree of 32,768 symbols is written with
+// 65,537 words of the table, each of at most 32 letters.
+fn long_room() -> [u8; 2097184]
+    ensures { λ r. ⌜ 2097184 ≡ length r ⌝ }
 {
-    [0; 5242944]
+    [0; 2097184]
 }
 
 // Makes the arrays that the answers need, once, and answers the input.
@@ -141,6 +269,7 @@ pub fn answer_all(opening: Opening, frames: &[u8; 16448], index: &[u64; 4096]) {
     let mut room = long_room();
     let mut piece = io::large_buffer();
     let mut out = io::large_buffer();
+    let mut counts = [0u64; 21];
     answer_lines(
         opening,
         frames,
@@ -150,5 +279,6 @@ pub fn answer_all(opening: Opening, frames: &[u8; 16448], index: &[u64; 4096]) {
         &mut room,
         &mut piece,
         &mut out,
+        &mut counts,
     );
 }

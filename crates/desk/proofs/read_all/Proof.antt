@@ -48,14 +48,17 @@ returns-2 : tie.Need-returns-2 Inv-loop μ-loop
 returns-2 c = search needs
 
 add-n : tie.Need-add-n Inv-loop μ-loop
-add-n c = omega (arith, bytes-inside _ _ (c .before .before .k .given .1) (c .before .before .before .before .before .before .read-some .ensures))
+add-n c =
+    let c6 = c .before .before .before .before .before .before in
+    omega (arith, bytes-inside _ _ (c .before .before .k .given .1) (c6 .read-some .ensures))
 
 loop-less : tie.Need-loop-less Inv-loop μ-loop
 loop-less c = search needs
 
 loop-again : tie.Need-loop-again Inv-loop μ-loop
 loop-again c =
-    let small = bytes-inside _ _ (c .before .before .k .given .1) (c .before .before .before .before .before .before .read-some .ensures) in
+    let c6 = c .before .before .before .before .before .before in
+    let small = bytes-inside _ _ (c .before .before .k .given .1) (c6 .read-some .ensures) in
     (omega (arith, small), search needs)
 
 same-length-3 : tie.Need-same-length-3 Inv-loop μ-loop

@@ -6,7 +6,7 @@ use Rattle.word.proofs.stream.long_room.Statement.{statement}
 use Rattle.word.proofs.stream.long_room.Tie as tie
 
 returns : tie.Need-returns
-returns c = sym (length-replicate {A = ℕ} 5242944 0)
+returns c = sym (length-replicate {A = ℕ} 2097184 0)
 
 pub long-room-spec : {M : Type 1} → statement M
 long-room-spec = tie.close (tie.spec returns)

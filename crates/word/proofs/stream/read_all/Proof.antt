@@ -6,13 +6,18 @@ use Rattle.word.proofs.stream.read_all.Statement.{statement}
 use Rattle.word.proofs.stream.read_all.Tie as tie
 
 abbrev Inv-loop : tie.InvT-loop
-Inv-loop opening frames index tree₀ plan₀ room₀ piece₀ out₀ state₀ turns₀ tree plan room piece out state turns = (length tree ≡ length tree₀) × (length room ≡ length room₀) × (length piece ≡ length piece₀) × (length out ≡ length out₀)
+Inv-loop opening frames index tree₀ plan₀ room₀ piece₀ out₀ counts₀ state₀ turns₀ tree plan room piece out counts state turns =
+    (length tree ≡ length tree₀) × (length room ≡ length room₀) × (length piece ≡ length piece₀) × (length out ≡ length out₀) × (length counts ≡ length counts₀)
 
 abbrev μ-loop : tie.MeasureT-loop
-μ-loop opening frames index tree₀ plan₀ room₀ piece₀ out₀ state₀ turns₀ tree plan room piece out state turns = turns
+μ-loop opening frames index tree₀ plan₀ room₀ piece₀ out₀ counts₀ state₀ turns₀ tree plan room piece out counts state turns =
+    turns
 
 start-requires : tie.Need-start-requires Inv-loop μ-loop
 start-requires c κs = search needs
+
+start-requires-2 : tie.Need-start-requires-2 Inv-loop μ-loop
+start-requires-2 c κs = search needs
 
 loop-holds : tie.Need-loop-holds Inv-loop μ-loop
 loop-holds c = search needs
@@ -41,11 +46,11 @@ same-length-3 c = search needs
 same-length-4 : tie.Need-same-length-4 Inv-loop μ-loop
 same-length-4 c = search needs
 
-returns : tie.Need-returns Inv-loop μ-loop
-returns c = search needs
-
 same-length-5 : tie.Need-same-length-5 Inv-loop μ-loop
 same-length-5 c = search needs
+
+returns : tie.Need-returns Inv-loop μ-loop
+returns c = search needs
 
 same-length-6 : tie.Need-same-length-6 Inv-loop μ-loop
 same-length-6 c = search needs
@@ -55,6 +60,12 @@ same-length-7 c = search needs
 
 same-length-8 : tie.Need-same-length-8 Inv-loop μ-loop
 same-length-8 c = search needs
+
+same-length-9 : tie.Need-same-length-9 Inv-loop μ-loop
+same-length-9 c = search needs
+
+same-length-10 : tie.Need-same-length-10 Inv-loop μ-loop
+same-length-10 c = search needs
 
 returns-2 : tie.Need-returns-2 Inv-loop μ-loop
 returns-2 c = search needs
@@ -66,6 +77,7 @@ read-all-spec =
     Inv-loop
     μ-loop
     start-requires
+    start-requires-2
     loop-holds
     read-some-requires
     sub-turns
@@ -75,9 +87,11 @@ read-all-spec =
     same-length-2
     same-length-3
     same-length-4
-    returns
     same-length-5
+    returns
     same-length-6
     same-length-7
     same-length-8
+    same-length-9
+    same-length-10
     returns-2)

@@ -1,0 +1,3 @@
+-- Laws of the parts of lines and of counts.
+mod Texts
+mod Sums

@@ -1,0 +1,3 @@
+-- The lines that the programs print.
+pub mod Lines
+pub mod Counts

@@ -1,0 +1,2 @@
+-- Laws of a line of hexadecimal that comes in pieces.
+pub mod Laws
