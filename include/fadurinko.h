@@ -5,9 +5,9 @@
  *
  * Link with target/staticlib/libfadurinko_c.a, which `rt staticlib fadurinko_c` writes (x86-64).
  * Nothing here allocates, keeps anything between calls, reads a file or prints. Calls may run on
- * several threads at once if no two of them write to the same bytes. Stack, as measured: about 235
- * kilobytes for a word by a text, 170 for a comparison, 105 for a judgement or form by a text, 55 for
- * opening a table, 15 for a call on an opened table.
+ * several threads at once if no two of them write to the same bytes: one open table serves many
+ * threads if each lends a plan of its own (fadurinko_find_with). How much stack a call takes is said
+ * below (FADURINKO_STACK_...).
  *
  * Every call answers with a number: 0 (FADURINKO_YES), or the number of no (the enum below). What
  * else the answer holds goes through its last pointers, and these are always written:
@@ -16,10 +16,12 @@
  *   on a no    the place in `count` or `place`, and 0 in the others; no other byte changes but in the
  *              plan, which is scratch.
  *
- * Pointers. Text, tree and room are a pointer and a length. The calls that end in _of, _table or
- * _in take a null pointer where the length is 0; the plain calls under "The calls as they are
- * exported" do not. No other pointer may be null. What a call writes (room, plan, table, the last
- * pointers) must not overlap with anything else that is given to the same call. */
+ * Pointers. Text, tree and room are a pointer and a length. The calls that end in _of, _table, _in or
+ * _with take a null pointer for nothing, whatever length comes with it: a null text is answered with
+ * number 1, a null tree with 6, and a null room is a room of length 0. The plain calls under "The
+ * calls as they are exported" take no null pointer. No other pointer may be null. What a call writes
+ * (room, plan, table, the last pointers) must not overlap with anything else that is given to the same
+ * call. */
 
 #ifndef FADURINKO_H
 #define FADURINKO_H
@@ -50,6 +52,16 @@ extern "C" {
 #define FADURINKO_ENTRIES 4096  /* 64-bit numbers */
 #define FADURINKO_HEAD 7        /* size_t */
 #define FADURINKO_PLAN 32768    /* 32-bit numbers: scratch for finding words */
+
+/* Bytes of stack that a call takes at most. examples/c/stack.c measures each: it takes more than half
+ * of its bound. */
+#define FADURINKO_STACK_WORD 204800        /* fadurinko_word, fadurinko_word_of */
+#define FADURINKO_STACK_JUDGE 57344        /* fadurinko_judge, fadurinko_judge_of */
+#define FADURINKO_STACK_FORM 57344         /* fadurinko_form, fadurinko_form_of */
+#define FADURINKO_STACK_COMPARE 122880     /* fadurinko_compare, fadurinko_compare_of */
+#define FADURINKO_STACK_OPEN 57344         /* fadurinko_open, fadurinko_open_table */
+#define FADURINKO_STACK_FIND 16384         /* fadurinko_find, fadurinko_find_in, fadurinko_find_with */
+#define FADURINKO_STACK_JUDGE_OPENED 1536  /* fadurinko_judge_opened, fadurinko_judge_in */
 
 /* The numbers of no, and what the place is. */
 enum fadurinko_number {
@@ -102,8 +114,16 @@ uint8_t fadurinko_find(const uint8_t *frames, const uint64_t *index, const size_
 uint8_t fadurinko_judge_opened(const uint8_t *frames, const uint64_t *index, const size_t *head,
                                size_t *place);
 
-/* ---- The calls to use. A null text, tree or room is taken for an empty one if its length is 0. */
+/* ---- The calls to use. A null text, tree or room is taken for nothing, whatever its length. */
 
+/* The length of what is lent. A null pointer lends nothing: without this a call would read or write
+ * behind the one byte that stands in for it. */
+static inline size_t fadurinko_length(const uint8_t *bytes, size_t length)
+{
+    return bytes != NULL ? length : 0;
+}
+
+/* A text or tree to read, or a byte in place of null: the exported calls take no null pointer. */
 static inline const uint8_t *fadurinko_bytes(const uint8_t *bytes)
 {
     static const uint8_t none = 0;
@@ -117,14 +137,16 @@ static inline uint8_t fadurinko_word_of(const uint8_t *text, size_t text_length,
                                         size_t room_length, size_t *count, size_t *terms)
 {
     uint8_t none = 0;
-    return fadurinko_word(fadurinko_bytes(text), text_length, fadurinko_bytes(tree), tree_length,
-                          room != NULL ? room : &none, room_length, count, terms);
+    return fadurinko_word(fadurinko_bytes(text), fadurinko_length(text, text_length),
+                          fadurinko_bytes(tree), fadurinko_length(tree, tree_length),
+                          room != NULL ? room : &none, fadurinko_length(room, room_length), count,
+                          terms);
 }
 
 /* Whether a table text is earliest (no: 1 to 5, 13 to 18). Yes: it is, and `place` is 0. */
 static inline uint8_t fadurinko_judge_of(const uint8_t *text, size_t text_length, size_t *place)
 {
-    return fadurinko_judge(fadurinko_bytes(text), text_length, place);
+    return fadurinko_judge(fadurinko_bytes(text), fadurinko_length(text, text_length), place);
 }
 
 /* The form of a table text (no: 1 to 5, 13 to 18, then 12). Yes: the first `count` bytes of the
@@ -133,8 +155,8 @@ static inline uint8_t fadurinko_form_of(const uint8_t *text, size_t text_length,
                                         size_t room_length, size_t *count)
 {
     uint8_t none = 0;
-    return fadurinko_form(fadurinko_bytes(text), text_length, room != NULL ? room : &none,
-                          room_length, count);
+    return fadurinko_form(fadurinko_bytes(text), fadurinko_length(text, text_length),
+                          room != NULL ? room : &none, fadurinko_length(room, room_length), count);
 }
 
 /* Whether two table texts give every tree the same word (no: 1 to 5 and 13 to 19). Yes: `same` is
@@ -143,8 +165,9 @@ static inline uint8_t fadurinko_compare_of(const uint8_t *first, size_t first_le
                                            const uint8_t *second, size_t second_length,
                                            size_t *same, size_t *table, size_t *place)
 {
-    return fadurinko_compare(fadurinko_bytes(first), first_length, fadurinko_bytes(second),
-                             second_length, same, table, place);
+    return fadurinko_compare(fadurinko_bytes(first), fadurinko_length(first, first_length),
+                             fadurinko_bytes(second), fadurinko_length(second, second_length),
+                             same, table, place);
 }
 
 /* A table that is opened once and finds the words of many trees. About 180 kilobytes, so rather
@@ -161,20 +184,45 @@ typedef struct fadurinko_table {
 static inline uint8_t fadurinko_open_table(fadurinko_table *table, const uint8_t *text,
                                            size_t text_length, size_t *place)
 {
-    return fadurinko_open(fadurinko_bytes(text), text_length, table->frames, table->index,
-                          table->head, place);
+    return fadurinko_open(fadurinko_bytes(text), fadurinko_length(text, text_length),
+                          table->frames, table->index, table->head, place);
+}
+
+/* Scratch for finding words, 128 kilobytes: what stands in it makes no difference. */
+typedef struct fadurinko_plan {
+    uint32_t numbers[FADURINKO_PLAN];
+} fadurinko_plan;
+
+/* Finds with numbers of scratch that the next two calls name. */
+static inline uint8_t fadurinko_find_by(const fadurinko_table *table, uint32_t *numbers,
+                                        const uint8_t *tree, size_t tree_length, uint8_t *room,
+                                        size_t room_length, size_t *count, size_t *terms)
+{
+    uint8_t none = 0;
+    return fadurinko_find(table->frames, table->index, table->head, fadurinko_bytes(tree),
+                          fadurinko_length(tree, tree_length), numbers,
+                          room != NULL ? room : &none, fadurinko_length(room, room_length), count,
+                          terms);
 }
 
 /* The word of a tree by an open table (no: 6 to 12): as fadurinko_word_of, without reading the text
- * again. Writes to the table's plan, so two threads need a copy each. */
+ * again. Writes to the table's own plan, so it is for one thread at a time. */
 static inline uint8_t fadurinko_find_in(fadurinko_table *table, const uint8_t *tree,
                                         size_t tree_length, uint8_t *room, size_t room_length,
                                         size_t *count, size_t *terms)
 {
-    uint8_t none = 0;
-    return fadurinko_find(table->frames, table->index, table->head, fadurinko_bytes(tree),
-                          tree_length, table->plan, room != NULL ? room : &none, room_length,
-                          count, terms);
+    return fadurinko_find_by(table, table->plan, tree, tree_length, room, room_length, count,
+                             terms);
+}
+
+/* The same with a plan that is lent apart: the table is only read, so any number of threads can find
+ * by one table at once, each with a plan of its own. The table's own plan is left alone. */
+static inline uint8_t fadurinko_find_with(const fadurinko_table *table, fadurinko_plan *plan,
+                                          const uint8_t *tree, size_t tree_length, uint8_t *room,
+                                          size_t room_length, size_t *count, size_t *terms)
+{
+    return fadurinko_find_by(table, plan->numbers, tree, tree_length, room, room_length, count,
+                             terms);
 }
 
 /* Whether an open table is earliest (no: 13 to 18). Yes: it is, and `place` is 0. */

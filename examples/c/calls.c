@@ -105,7 +105,31 @@ static void texts(void)
     expect("compare, late", number, same, table, place, FADURINKO_NO_PREFIX, 0, 2, 0);
 }
 
+/* Null with a length above 0 lends nothing, so nothing is read or written behind it. */
+static void nothing_lent(void)
+{
+    const uint8_t *old = (const uint8_t *)OLD;
+    size_t count = 99, terms = 99, same = 99, table = 99, place = 99;
+    uint8_t number = fadurinko_word_of(NULL, OLD_LENGTH, TREE, 3, room(), 3, &count, &terms);
+    expect("word, null text", number, count, terms, 0, FADURINKO_NO_TEXT_SIZE, 0, 0, 0);
+    number = fadurinko_word_of(old, OLD_LENGTH, NULL, 3, room(), 3, &count, &terms);
+    expect("word, null tree", number, count, terms, 0, FADURINKO_NO_TREE_SIZE, 0, 0, 0);
+    number = fadurinko_word_of(old, OLD_LENGTH, TREE, 3, NULL, 3, &count, &terms);
+    expect("word, null room", number, count, terms, 0, FADURINKO_NO_ROOM, 3, 0, 0);
+    number = fadurinko_judge_of(NULL, OLD_LENGTH, &place);
+    expect("judge, null text", number, place, 0, 0, FADURINKO_NO_TEXT_SIZE, 0, 0, 0);
+    number = fadurinko_form_of(NULL, OLD_LENGTH, room(), FADURINKO_TEXT, &count);
+    expect("form, null text", number, count, 0, 0, FADURINKO_NO_TEXT_SIZE, 0, 0, 0);
+    number = fadurinko_form_of(old, OLD_LENGTH, NULL, FORM_LENGTH, &count);
+    expect("form, null room", number, count, 0, 0, FADURINKO_NO_ROOM, FORM_LENGTH, 0, 0);
+    number = fadurinko_compare_of(NULL, OLD_LENGTH, old, OLD_LENGTH, &same, &table, &place);
+    expect("compare, first null", number, same, table, place, FADURINKO_NO_TEXT_SIZE, 0, 1, 0);
+    number = fadurinko_compare_of(old, OLD_LENGTH, NULL, OLD_LENGTH, &same, &table, &place);
+    expect("compare, second null", number, same, table, place, FADURINKO_NO_TEXT_SIZE, 0, 2, 0);
+}
+
 static fadurinko_table table, as_it_was;
+static fadurinko_plan plan;
 
 static void opened(void)
 {
@@ -129,11 +153,36 @@ static void opened(void)
     expect("judge, opened", number, place, 0, 0, FADURINKO_YES, 0, 0, 0);
 }
 
+/* An open table that is only read, with a plan of its own beside it; null here too. */
+static void plan_apart(void)
+{
+    const fadurinko_table *read_only = &table;
+    size_t count = 99, terms = 99, place = 99;
+    memcpy(&as_it_was, &table, sizeof table);
+    memset(&plan, 0xff, sizeof plan);
+    uint8_t number = fadurinko_find_with(read_only, &plan, TREE, 3, room(), 40, &count, &terms);
+    expect("find with", number, count, terms, 0, FADURINKO_YES, 3, 1, 0);
+    expect_bytes("find with", "x,x", 3);
+    number = fadurinko_find_with(read_only, &plan, TREE, 3, NULL, 40, &count, &terms);
+    expect("find with, null room", number, count, terms, 0, FADURINKO_NO_ROOM, 3, 0, 0);
+    number = fadurinko_find_with(read_only, &plan, NULL, 3, room(), 40, &count, &terms);
+    expect("find with, null tree", number, count, terms, 0, FADURINKO_NO_TREE_SIZE, 0, 0, 0);
+    expect("find with", 0, (size_t)memcmp(&as_it_was, &table, sizeof table), 0, 0, 0, 0, 0, 0);
+    number = fadurinko_find_in(&table, TREE, 3, NULL, 40, &count, &terms);
+    expect("find, null room", number, count, terms, 0, FADURINKO_NO_ROOM, 3, 0, 0);
+    number = fadurinko_find_in(&table, NULL, 3, room(), 40, &count, &terms);
+    expect("find, null tree", number, count, terms, 0, FADURINKO_NO_TREE_SIZE, 0, 0, 0);
+    number = fadurinko_open_table(&table, NULL, OLD_LENGTH, &place);
+    expect("open, null text", number, place, 0, 0, FADURINKO_NO_TEXT_SIZE, 0, 0, 0);
+}
+
 int main(void)
 {
     words();
     texts();
+    nothing_lent();
     opened();
+    plan_apart();
     if (wrong > 0)
         return 1;
     printf("%d answers as expected\n", answers);

@@ -12,12 +12,15 @@ this file looks for it in target/, or where the variable FADURINKO_SO says.
     table.word(bytes([0, 2, 4, 3]))     # b"d-x-n"
     fadurinko.compare(first, second)    # True for the same, False for different
 
-A no is raised as fadurinko.No, with its number, its place and, for a comparison, its table.
+Texts and trees are bytes, or anything else that has a buffer: a bytearray, a memoryview. A no is raised
+as fadurinko.No, with its number, its place and, for a comparison, its table. Tables can be used by
+several threads at once and sent to other processes.
 """
 
 import ctypes
 import os
 import sys
+import threading
 
 FRAMES, ENTRIES, HEAD, PLAN = 16448, 4096, 7, 32768
 TEXT = 32768
@@ -50,11 +53,44 @@ for _name, _parameters in _PARAMETERS.items():
 
 
 class No(Exception):
-    """A refusal: its number, its place, and which of two tables it is about (0: neither alone)."""
+    """A refusal: its number, its place, and its table.
 
-    def __init__(self, number, place, table=0):
-        super().__init__(f"no {number} {place}")
+    The table is None where the call was given one table only. For a comparison it is 1 or 2, or 0 for
+    number 19, which is about both. The text is what the programs print: "no NUMBER PLACE", and for a
+    comparison "no TABLE NUMBER PLACE".
+    """
+
+    def __init__(self, number, place, table=None):
+        # These are what a refusal is made of again in another process.
+        super().__init__(number, place, table)
         self.number, self.place, self.table = number, place, table
+
+    def __str__(self):
+        about = "" if self.table is None else f"{self.table} "
+        return f"no {about}{self.number} {self.place}"
+
+
+class _Own(threading.local):
+    """What each thread has for itself: the plan, which finding a word writes to.
+
+    Python's lock is free while a call runs, so a plan that two threads shared would be written to by
+    both at once.
+    """
+
+    def __init__(self):
+        self.plan = _PLAN()
+
+
+_own = _Own()
+
+
+def _bytes(given):
+    if isinstance(given, bytes):
+        return given
+    try:
+        return bytes(memoryview(given))
+    except TypeError:
+        raise TypeError(f"a text or tree must be bytes or have a buffer, not {type(given).__name__}") from None
 
 
 def _numbers(count):
@@ -63,6 +99,7 @@ def _numbers(count):
 
 def judge(text):
     """Nothing if the table text is earliest."""
+    text = _bytes(text)
     (place,) = _numbers(1)
     number = _calls.fadurinko_judge(text, len(text), place)
     if number:
@@ -71,6 +108,7 @@ def judge(text):
 
 def form(text):
     """The form's text. It is never longer than the table's."""
+    text = _bytes(text)
     (count,) = _numbers(1)
     room = ctypes.create_string_buffer(min(len(text), TEXT) + 1)
     number = _calls.fadurinko_form(text, len(text), room, len(room), count)
@@ -81,6 +119,7 @@ def form(text):
 
 def compare(first, second):
     """Whether two table texts give every tree the same word."""
+    first, second = _bytes(first), _bytes(second)
     same, table, place = _numbers(3)
     number = _calls.fadurinko_compare(first, len(first), second, len(second), same, table, place)
     if number:
@@ -89,26 +128,34 @@ def compare(first, second):
 
 
 class Table:
-    """A table that is opened once and finds the words of many trees, on one thread at a time."""
+    """A table that is opened once and finds the words of many trees.
+
+    Finding only reads it, so any number of threads can use one table at once. It can be copied and
+    pickled: it is its text that is sent, and opened again on the other side.
+    """
 
     def __init__(self, text):
+        self._text = _bytes(text)
         self._arrays = (_FRAMES(), _INDEX(), _HEAD())
-        self._plan = _PLAN()
         (place,) = _numbers(1)
-        number = _calls.fadurinko_open(text, len(text), *self._arrays, place)
+        number = _calls.fadurinko_open(self._text, len(self._text), *self._arrays, place)
         if number:
             raise No(number, place.value)
+
+    def __reduce__(self):
+        return type(self), (self._text,)
 
     def _find(self, tree, room):
         count, terms = _numbers(2)
         # ctypes needs a buffer of its own where the room is empty.
         buffer = room if room is not None else ctypes.create_string_buffer(1)
         length = 0 if room is None else len(room)
-        number = _calls.fadurinko_find(*self._arrays, tree, len(tree), self._plan, buffer, length, count, terms)
+        number = _calls.fadurinko_find(*self._arrays, tree, len(tree), _own.plan, buffer, length, count, terms)
         return number, count.value
 
     def word(self, tree):
         """The word of a tree, which is given as its symbols in preorder, a byte each."""
+        tree = _bytes(tree)
         number, count = self._find(tree, None)
         if number == ROOM_TOO_SHORT:
             room = ctypes.create_string_buffer(count)
@@ -148,6 +195,10 @@ def _example(folder):
         Table(b"")
     except No as no:
         print("empty text", no)
+    try:
+        compare(clips, b"")
+    except No as no:
+        print("clips and empty text", no)
 
 
 if __name__ == "__main__":

@@ -29,8 +29,9 @@
 //! of the repository (x86-64). The build looks for it in `target/staticlib` there, or in the folder
 //! that the variable `FADURINKO_LIB` names. This crate needs no other.
 //!
-//! Each no is a [`Refusal`] with a number and a place; its `Display` says what to do. A call takes at
-//! most about 235 kilobytes of stack (a word by a text, as measured), finding by an [`OpenTable`] 15.
+//! Each no is a [`Refusal`] with a number and a place; its `Display` says what to do. How much stack a
+//! call takes at most is in [`limit`]: [`limit::STACK_WORD`] for a word by a text, which is the most,
+//! and [`limit::STACK_FIND`] for finding by an [`OpenTable`].
 
 #![deny(missing_docs)]
 #![deny(unsafe_code)]
@@ -42,7 +43,7 @@ pub mod number;
 mod open_table;
 mod refusal;
 
-pub use open_table::OpenTable;
+pub use open_table::{OpenTable, Plan};
 pub use refusal::{CompareRefusal, Refusal};
 
 /// A word that was put into a room.

@@ -1,4 +1,5 @@
-//! The limits of tables and trees, and the sizes of an opened table's arrays.
+//! The limits of tables and trees, the sizes of an opened table's arrays, and how much stack the linked
+//! calls take.
 
 /// Bytes of a table text, at least 1. A form is never longer than its table's text.
 pub const TEXT: usize = 32_768;
@@ -27,3 +28,19 @@ pub const ENTRIES: usize = 4_096;
 pub const HEAD: usize = 7;
 /// Entries of the plan that finding a word is lent.
 pub const PLAN: usize = 32_768;
+
+/// Bytes of stack that a word by a text takes at most. This and the next six are the bounds that the C
+/// header gives for the linked calls, as `examples/c/stack.c` measures them.
+pub const STACK_WORD: usize = 204_800;
+/// Bytes of stack that a judgement by a text takes at most.
+pub const STACK_JUDGE: usize = 57_344;
+/// Bytes of stack that a form takes at most.
+pub const STACK_FORM: usize = 57_344;
+/// Bytes of stack that a comparison takes at most.
+pub const STACK_COMPARE: usize = 122_880;
+/// Bytes of stack that opening a table takes at most.
+pub const STACK_OPEN: usize = 57_344;
+/// Bytes of stack that a word by an opened table takes at most.
+pub const STACK_FIND: usize = 16_384;
+/// Bytes of stack that the judgement of an opened table takes at most.
+pub const STACK_JUDGE_OPENED: usize = 1_536;

@@ -6,10 +6,60 @@ use crate::lent;
 use crate::limit::{ENTRIES, FRAMES, HEAD, PLAN};
 use crate::{answered, found, Refusal, Word};
 
+/// Scratch for finding words: 128 kilobytes on the heap. What stands in it makes no difference, so one
+/// plan serves any number of tables and trees, one after the other.
+#[derive(Clone)]
+pub struct Plan(Box<[u32; PLAN]>);
+
+impl Plan {
+    /// A plan to lend to [`OpenTable::word_with`] and [`OpenTable::word_into_with`].
+    pub fn new() -> Plan {
+        Plan(boxed())
+    }
+}
+
+impl Default for Plan {
+    fn default() -> Plan {
+        Plan::new()
+    }
+}
+
+impl fmt::Debug for Plan {
+    fn fmt(&self, out: &mut fmt::Formatter<'_>) -> fmt::Result {
+        out.debug_struct("Plan").finish_non_exhaustive()
+    }
+}
+
+/// What opening a text leaves. Finding and judging only read it.
+#[derive(Clone)]
+struct Arrays {
+    frames: Box<[u8; FRAMES]>,
+    index: Box<[u64; ENTRIES]>,
+    head: [usize; HEAD],
+}
+
+impl Arrays {
+    fn find(&self, tree: &[u8], plan: &mut Plan, room: &mut [u8]) -> Result<Word, Refusal> {
+        let (mut length, mut terms) = (0, 0);
+        let number = lent::find(
+            &self.frames,
+            &self.index,
+            &self.head,
+            tree,
+            &mut plan.0,
+            room,
+            &mut length,
+            &mut terms,
+        );
+        answered(number, length, Word { length, terms })
+    }
+}
+
 /// A table that is opened once and finds the words of many trees.
 ///
 /// It owns all that it needs (about 180 kilobytes on the heap) and lets the text go. Finding a word
-/// writes to a plan that it owns too, so a thread needs an open table of its own: clone it.
+/// needs a plan, which is scratch. [`OpenTable::word`] writes to a plan that the table owns too, so it
+/// takes the table for itself:
 ///
 /// ```
 /// # fn main() -> Result<(), fadurinko::Refusal> {
@@ -21,17 +71,36 @@ use crate::{answered, found, Refusal, Word};
 /// # Ok(())
 /// # }
 /// ```
+///
+/// [`OpenTable::word_with`] is lent a [`Plan`] and only reads the table, so that any number of threads
+/// can share one table:
+///
+/// ```
+/// # fn main() -> Result<(), fadurinko::Refusal> {
+/// use fadurinko::{OpenTable, Plan};
+/// let text = b"0102\n0100\n0100\n0202000000\n0300000001012c0100\n03010100\n0301020178\n04\n";
+/// let table = OpenTable::open(text)?;
+/// std::thread::scope(|threads| {
+///     for (tree, word) in [([0, 2, 2], "x,x"), ([0, 2, 1], "x,"), ([0, 1, 1], ",")] {
+///         let table = &table;
+///         threads.spawn(move || {
+///             let mut plan = Plan::new();
+///             assert_eq!(table.word_with(&tree, &mut plan).unwrap(), word.as_bytes());
+///         });
+///     }
+/// });
+/// # Ok(())
+/// # }
+/// ```
 #[derive(Clone)]
 pub struct OpenTable {
-    frames: Box<[u8; FRAMES]>,
-    index: Box<[u64; ENTRIES]>,
-    head: [usize; HEAD],
-    plan: Box<[u32; PLAN]>,
+    arrays: Arrays,
+    plan: Plan,
 }
 
 impl fmt::Debug for OpenTable {
     fn fmt(&self, out: &mut fmt::Formatter<'_>) -> fmt::Result {
-        let [symbols, states, .., rules] = self.head;
+        let [symbols, states, .., rules] = self.arrays.head;
         out.debug_struct("OpenTable")
             .field("symbols", &symbols)
             .field("states", &states)
@@ -52,10 +121,12 @@ impl OpenTable {
     /// Opens a table text, or says which line is wrong (1 to 5).
     pub fn open(text: &[u8]) -> Result<OpenTable, Refusal> {
         let mut table = OpenTable {
-            frames: boxed(),
-            index: boxed(),
-            head: [0; HEAD],
-            plan: boxed(),
+            arrays: Arrays {
+                frames: boxed(),
+                index: boxed(),
+                head: [0; HEAD],
+            },
+            plan: Plan::new(),
         };
         table.reopen(text)?;
         Ok(table)
@@ -75,13 +146,12 @@ impl OpenTable {
     /// ```
     pub fn reopen(&mut self, text: &[u8]) -> Result<(), Refusal> {
         let mut place = 0;
-        let number = lent::open(
-            text,
-            &mut self.frames,
-            &mut self.index,
-            &mut self.head,
-            &mut place,
-        );
+        let Arrays {
+            frames,
+            index,
+            head,
+        } = &mut self.arrays;
+        let number = lent::open(text, frames, index, head, &mut place);
         answered(number, place, ())
     }
 
@@ -101,30 +171,39 @@ impl OpenTable {
     /// # }
     /// ```
     pub fn word_into(&mut self, tree: &[u8], room: &mut [u8]) -> Result<Word, Refusal> {
-        let (mut count, mut terms) = (0, 0);
-        let number = lent::find(
-            &self.frames,
-            &self.index,
-            &self.head,
-            tree,
-            &mut self.plan,
-            room,
-            &mut count,
-            &mut terms,
-        );
-        answered(
-            number,
-            count,
-            Word {
-                length: count,
-                terms,
-            },
-        )
+        self.arrays.find(tree, &mut self.plan, room)
     }
 
     /// The word of a tree, or why it has none (6 to 11).
     pub fn word(&mut self, tree: &[u8]) -> Result<Vec<u8>, Refusal> {
         found(|room| self.word_into(tree, room))
+    }
+
+    /// As [`OpenTable::word_into`], with a plan that is lent apart: the table is only read.
+    ///
+    /// ```
+    /// # fn main() -> Result<(), fadurinko::Refusal> {
+    /// let table = fadurinko::OpenTable::open(b"0100\n0201000000\n03000003612062\n04\n")?;
+    /// let mut plan = fadurinko::Plan::new();
+    /// let mut room = [b'.'; 5];
+    /// let word = table.word_into_with(&[0], &mut plan, &mut room)?;
+    /// assert_eq!((word.length, word.terms), (3, 2));
+    /// assert_eq!(&room, b"a b..");
+    /// # Ok(())
+    /// # }
+    /// ```
+    pub fn word_into_with(
+        &self,
+        tree: &[u8],
+        plan: &mut Plan,
+        room: &mut [u8],
+    ) -> Result<Word, Refusal> {
+        self.arrays.find(tree, plan, room)
+    }
+
+    /// As [`OpenTable::word`], with a plan that is lent apart: the table is only read.
+    pub fn word_with(&self, tree: &[u8], plan: &mut Plan) -> Result<Vec<u8>, Refusal> {
+        found(|room| self.word_into_with(tree, plan, room))
     }
 
     /// Nothing if the table is earliest, or why not (13 to 18).
@@ -138,7 +217,12 @@ impl OpenTable {
     /// ```
     pub fn judge(&self) -> Result<(), Refusal> {
         let mut place = 0;
-        let number = lent::judge_opened(&self.frames, &self.index, &self.head, &mut place);
+        let Arrays {
+            frames,
+            index,
+            head,
+        } = &self.arrays;
+        let number = lent::judge_opened(frames, index, head, &mut place);
         answered(number, place, ())
     }
 }

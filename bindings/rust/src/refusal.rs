@@ -53,14 +53,10 @@ impl Refusal {
         let place = self.place;
         match self.number {
             1 => write!(out, "give 1 to 32768 bytes"),
-            3 => write!(
+            2..=5 => write!(
                 out,
-                "look at the line that starts at byte {place} of the table text; \
-                 if the text ends there, close it with the line 04"
-            ),
-            2 | 4 | 5 => write!(
-                out,
-                "look at the line that starts at byte {place} of the table text"
+                "look at the line that starts at byte {place} of the table text{}",
+                self.line_advice()
             ),
             6 => write!(out, "give 1 to 32768 symbols"),
             7 | 10 => write!(out, "look at the symbol at {place}"),
@@ -71,11 +67,7 @@ impl Refusal {
             ),
             11 => write!(out, "cut the tree before the symbol at {place}"),
             12 => write!(out, "lend {place} bytes"),
-            13 | 14 => write!(out, "drop state {place}"),
-            15 => write!(out, "write the prefix of state {place} before it is called"),
-            16 => write!(out, "write the suffix of state {place} behind its call"),
-            17 => write!(out, "move the letters before its state"),
-            18 => write!(out, "look at the rule with index {place}, counted from 0"),
+            13..=18 => self.table_advice(out),
             19 => write!(out, "look at the symbol with index {place}, counted from 0"),
             _ => write!(
                 out,
@@ -83,7 +75,60 @@ impl Refusal {
             ),
         }
     }
+
+    /// What to look for in a faulty line.
+    fn line_advice(&self) -> &'static str {
+        match self.number {
+            3 => "; if the text ends there, close it with the line 04",
+            4 => {
+                ": a state or symbol must be below its count; often a child is forgotten or a word's \
+                 length is wrong, so that the next byte is read as a number that it is not"
+            }
+            5 => ": compare the word lengths with the letters, and the children with the symbol's arity",
+            _ => "",
+        }
+    }
+
+    /// How to change a table that is not earliest. Each change leaves the words of all trees as they
+    /// were, but for a rule that is added.
+    fn table_advice(&self, out: &mut fmt::Formatter<'_>) -> fmt::Result {
+        let place = self.place;
+        match self.number {
+            13 => write!(out, "drop state {place}{DROPPED}"),
+            14 => write!(
+                out,
+                "give state {place} a rule that ends, or drop it{DROPPED}"
+            ),
+            15 => write!(
+                out,
+                "write its first letter in front of every call of state {place}, in its own rules too, \
+                 and take it off the front of the first word of each of its rules; where that word is \
+                 empty, the letter comes from the first child: move it in front of that child first"
+            ),
+            16 => write!(
+                out,
+                "write its last letter behind every call of state {place}, in its own rules too, and \
+                 take it off the end of the last word of each of its rules; where that word is empty, \
+                 the letter comes from the last child: move it behind that child first"
+            ),
+            17 => write!(out, "move the letter in front of the state; {TURNED}"),
+            _ => write!(
+                out,
+                "in the rule with index {place}, counted from 0, move the letter in front of the child; \
+                 {TURNED}"
+            ),
+        }
+    }
 }
+
+/// What goes with a state that is dropped: the states behind it are counted anew.
+const DROPPED: &str = ", its rules and the rules that call it; then number the later states one \
+                       lower, and lower the count of states";
+
+/// A letter passes a state's words by leaving their front and standing at their end.
+const TURNED: &str =
+    "if the state has words that begin with it, call a state there whose words end \
+                      with it instead";
 
 impl fmt::Display for Refusal {
     fn fmt(&self, out: &mut fmt::Formatter<'_>) -> fmt::Result {

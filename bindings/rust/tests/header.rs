@@ -33,6 +33,13 @@ fn limits() {
         ("ENTRIES", limit::ENTRIES),
         ("HEAD", limit::HEAD),
         ("PLAN", limit::PLAN),
+        ("STACK_WORD", limit::STACK_WORD),
+        ("STACK_JUDGE", limit::STACK_JUDGE),
+        ("STACK_FORM", limit::STACK_FORM),
+        ("STACK_COMPARE", limit::STACK_COMPARE),
+        ("STACK_OPEN", limit::STACK_OPEN),
+        ("STACK_FIND", limit::STACK_FIND),
+        ("STACK_JUDGE_OPENED", limit::STACK_JUDGE_OPENED),
     ];
     for (name, value) in limits {
         assert_eq!(

@@ -3,7 +3,7 @@
 mod common;
 
 use common::{full_tree, own_form, text, wordy, Rule, T};
-use fadurinko::{compare, form, judge, limit, word, Comparison, OpenTable, Refusal};
+use fadurinko::{compare, form, judge, limit, word, Comparison, OpenTable, Plan, Refusal};
 
 fn no<A>(number: u8, place: usize) -> Result<A, Refusal> {
     Err(Refusal { number, place })
@@ -128,6 +128,7 @@ fn one_table_for_several_threads() {
     fn is_sent_and_shared<T: Send + Sync + Clone>(_: &T) {}
     let table = OpenTable::open(T).unwrap();
     is_sent_and_shared(&table);
+    is_sent_and_shared(&Plan::new());
     let threads: Vec<_> = (0..4)
         .map(|_| {
             let mut table = table.clone();
@@ -138,4 +139,30 @@ fn one_table_for_several_threads() {
         .collect();
     assert!(threads.into_iter().all(|thread| thread.join().unwrap()));
     assert!(format!("{table:?}").contains("states: 3"));
+}
+
+/// Two threads find by one table that is only read, each with a plan of its own and in another order.
+#[test]
+fn one_table_lent_to_two_threads() {
+    let text = wordy(3);
+    let trees: Vec<Vec<u8>> = (1..=12)
+        .flat_map(|levels| (0..4).map(move |chain| full_tree(levels, chain)))
+        .collect();
+    let words: Vec<Vec<u8>> = trees
+        .iter()
+        .map(|tree| word(&text, tree).unwrap())
+        .collect();
+    let table = &OpenTable::open(&text).unwrap();
+    let find_all = |first: usize| {
+        let mut plan = Plan::default();
+        let all = trees.iter().zip(&words).cycle().skip(first);
+        all.take(20 * trees.len())
+            .filter(|(tree, word)| table.word_with(tree, &mut plan).as_ref() != Ok(word))
+            .count()
+    };
+    std::thread::scope(|threads| {
+        let other = threads.spawn(|| find_all(trees.len() / 2));
+        assert_eq!(find_all(0), 0);
+        assert_eq!(other.join().unwrap(), 0);
+    });
 }

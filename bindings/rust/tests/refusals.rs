@@ -211,7 +211,9 @@ fn every_number_says_something_of_its_own() {
     };
     assert_eq!(
         second.to_string(),
-        "second table: no 14 3: a state has no word; drop state 3"
+        "second table: no 14 3: a state has no word; give state 3 a rule that ends, or drop it, its \
+         rules and the rules that call it; then number the later states one lower, and lower the count \
+         of states"
     );
     let error: Box<dyn std::error::Error + Send + Sync> = Box::new(second.refusal);
     assert!(error.downcast_ref::<Refusal>().is_some());

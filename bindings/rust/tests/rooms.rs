@@ -3,7 +3,7 @@
 mod common;
 
 use common::{full_tree, m1_earliest, own_form, text, wordy, T, T_FORM};
-use fadurinko::{form_into, lent, limit, word_into, OpenTable, Refusal, Word};
+use fadurinko::{form_into, lent, limit, word_into, OpenTable, Plan, Refusal, Word};
 
 /// Long enough for any copy that is done in pieces of 32.
 const GUARD: usize = 96;
@@ -53,6 +53,7 @@ fn lengths(need: usize) -> Vec<usize> {
 
 fn word_in_every_room(text: &[u8], tree: &[u8], output: &[u8], terms: usize) {
     let mut table = OpenTable::open(text).unwrap();
+    let mut plan = Plan::new();
     for length in lengths(output.len()) {
         let yes = Word {
             length: output.len(),
@@ -60,6 +61,9 @@ fn word_in_every_room(text: &[u8], tree: &[u8], output: &[u8], terms: usize) {
         };
         in_a_room(length, output, yes, |room| word_into(text, tree, room));
         in_a_room(length, output, yes, |room| table.word_into(tree, room));
+        in_a_room(length, output, yes, |room| {
+            table.word_into_with(tree, &mut plan, room)
+        });
     }
     assert_eq!(table.word(tree).as_deref(), Ok(output));
 }

@@ -1,0 +1,118 @@
+/* One open table on several threads. From the folder of the repository:
+ *
+ *   rt staticlib fadurinko_c
+ *   gcc -std=c99 -Wall -Wextra -pedantic -O2 -pthread -Iinclude examples/c/threads.c target/staticlib/libfadurinko_c.a -o target/threads-in-c
+ *   target/threads-in-c
+ *
+ * The table is only read; each thread lends a plan and a room of its own. It prints "N words on 2
+ * threads as on one", or how many are others and exit status 1. */
+
+#include <fadurinko.h>
+#include <pthread.h>
+#include <stdio.h>
+#include <string.h>
+
+/* A pair is written (left,right) and its leaves a and b: so each tree has a word of its own. */
+static const char TEXT[] = "0102\n0100\n0100\n0201000000\n030000012800012c000129\n"
+                           "0300010161\n0300020162\n04\n";
+#define TEXT_LENGTH (sizeof TEXT - 1)
+
+#define TREES 64
+#define SYMBOLS 4096  /* of a tree at most: 12 levels */
+#define ROOM (4 * SYMBOLS)
+#define THREADS 2
+#define ROUNDS 200
+
+static fadurinko_table opened;
+static uint8_t trees[TREES][SYMBOLS];
+static size_t tree_lengths[TREES];
+static uint8_t words[TREES][ROOM];
+static size_t word_lengths[TREES];
+
+static unsigned random_bits(void)
+{
+    static uint32_t state = 1;
+    state = state * 1664525u + 1013904223u;
+    return state >> 24;
+}
+
+/* Puts a tree of at most so many levels behind the symbols that the tree has. */
+static void grow(size_t at, int levels)
+{
+    unsigned bits = random_bits();
+    int leaf = levels == 1 || bits < 16;
+    trees[at][tree_lengths[at]++] = leaf ? (uint8_t)(1 + bits % 2) : 0;
+    if (!leaf) {
+        grow(at, levels - 1);
+        grow(at, levels - 1);
+    }
+}
+
+/* What a thread lends, and how many of its words were others. */
+typedef struct worker {
+    const fadurinko_table *table;
+    fadurinko_plan plan;
+    uint8_t room[ROOM];
+    size_t first, others;
+} worker;
+
+static worker workers[THREADS];
+
+/* Finds all words again and again. Each thread begins with another tree. */
+static void *find_all(void *given)
+{
+    worker *mine = given;
+    for (size_t i = 0; i < ROUNDS * TREES; i++) {
+        size_t at = (mine->first + i) % TREES, count = 0, terms = 0;
+        uint8_t number = fadurinko_find_with(mine->table, &mine->plan, trees[at], tree_lengths[at],
+                                             mine->room, ROOM, &count, &terms);
+        if (number != FADURINKO_YES || count != word_lengths[at]
+            || memcmp(mine->room, words[at], count) != 0)
+            mine->others++;
+    }
+    return NULL;
+}
+
+/* The words on one thread, each by the text itself. */
+static int find_first(void)
+{
+    size_t terms = 0;
+    for (size_t at = 0; at < TREES; at++) {
+        grow(at, 12);
+        uint8_t number = fadurinko_word_of((const uint8_t *)TEXT, TEXT_LENGTH, trees[at],
+                                           tree_lengths[at], words[at], ROOM, &word_lengths[at],
+                                           &terms);
+        if (number != FADURINKO_YES)
+            return 0;
+    }
+    return 1;
+}
+
+int main(void)
+{
+    size_t place = 0, others = 0;
+    pthread_t threads[THREADS];
+    if (fadurinko_open_table(&opened, (const uint8_t *)TEXT, TEXT_LENGTH, &place) > 0
+        || !find_first()) {
+        printf("the table or a tree was refused\n");
+        return 1;
+    }
+    for (size_t i = 0; i < THREADS; i++) {
+        workers[i].table = &opened;
+        workers[i].first = i * TREES / THREADS;
+        if (pthread_create(&threads[i], NULL, find_all, &workers[i]) != 0) {
+            printf("a thread could not be started\n");
+            return 1;
+        }
+    }
+    for (size_t i = 0; i < THREADS; i++) {
+        pthread_join(threads[i], NULL);
+        others += workers[i].others;
+    }
+    if (others > 0) {
+        printf("%zu words are others than on one thread\n", others);
+        return 1;
+    }
+    printf("%d words on %d threads as on one\n", ROUNDS * TREES * THREADS, THREADS);
+    return 0;
+}
