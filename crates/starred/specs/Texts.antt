@@ -1,18 +1,7 @@
--- The table texts of the starred cases, as the characters that document 01 prints: nothing of this library reads or writes them here. Definitions only.
+-- The table texts of the starred cases, as the characters that document 01 prints. Definitions only.
 use mathlib.Core.List.{List, [], _∷_}
 use Prim.Native.Nat.{ℕ}
-use Prim.Native.Char.{code}
-use Prim.Native.String.{String, [] as []ˢ, _∷_ as _∷ˢ_}
-
--- A line's characters by their codes, the 0a that closes it, and then bytes.
-unfoldable pub line : String → List ℕ → List ℕ
-line []ˢ bytes = 0x0a ∷ bytes
-line (c ∷ˢ cs) bytes = code c ∷ line cs bytes
-
--- The bytes of lines in turn.
-unfoldable pub lines : List String → List ℕ
-lines [] = []
-lines (l ∷ ls) = line l (lines ls)
+use Rattle.text.specs.Characters.{lines}
 
 -- T, the table on the left of the listing.
 abbrev pub T : List ℕ
