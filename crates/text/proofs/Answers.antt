@@ -120,32 +120,20 @@ bad-rules =
     ∷ (two ("03010000" ∷ "030002" ∷ []), 4, 30)
     ∷ []
 
--- Number 4: symbols 64 and 65, arity 4 and 5.
-abbrev bad-symbols : List Refusal
-bad-symbols =
-    (replicate 64 "0100", 3, 320)
-    ∷ (replicate 64 "0100" ++ "01" ∷ [], 4, 320)
-    ∷ ("0104" ∷ [], 3, 5)
+-- Number 4: arity 4 and 5; states 0, 64 and 65; a word of 32 letters and of 33; the initial state; a rule's state, symbol and child state.
+abbrev bad-numbers : List Refusal
+bad-numbers =
+    ("0104" ∷ [], 3, 5)
     ∷ ("0105" ∷ [], 4, 0)
-    ∷ []
-
--- Number 4: states 0, 64 and 65; the initial state; a rule's state, symbol and child state.
-abbrev bad-states : List Refusal
-bad-states =
-    ("0100" ∷ "0200" ∷ [], 4, 5)
+    ∷ ("0100" ∷ "0200" ∷ [], 4, 5)
     ∷ ("0100" ∷ "0240003f00" ∷ [], 3, 16)
     ∷ ("0100" ∷ "0241" ∷ [], 4, 5)
+    ∷ ("0100" ∷ "02012061616161616161616161616161616161616161616161616161616161616161610000" ∷ [], 3, 80)
+    ∷ ("0100" ∷ "020121" ∷ [], 4, 5)
     ∷ ("0100" ∷ "02400040" ∷ [], 4, 5)
     ∷ (two ("0303" ∷ []), 4, 21)
     ∷ (two ("030202" ∷ []), 4, 21)
     ∷ (two ("0300010003" ∷ []), 4, 21)
-    ∷ []
-
--- Number 4: a word of 32 letters and of 33.
-abbrev bad-words : List Refusal
-bad-words =
-    ("0100" ∷ "02012061616161616161616161616161616161616161616161616161616161616161610000" ∷ [], 3, 80)
-    ∷ ("0100" ∷ "020121" ∷ [], 4, 5)
     ∷ []
 
 -- Number 5: a byte that is lacking in each field, or left over in each frame.
@@ -155,9 +143,9 @@ bad-sizes =
     ∷ ("010000" ∷ [], 5, 0)
     ∷ ("0100" ∷ "02" ∷ [], 5, 5)
     ∷ ("0100" ∷ "0201" ∷ [], 5, 5)
-    ∷ ("0100" ∷ "02010261" ∷ [], 5, 5)
     ∷ ("0100" ∷ "020100" ∷ [], 5, 5)
     ∷ ("0100" ∷ "02010000" ∷ [], 5, 5)
+    ∷ ("0100" ∷ "020100000261" ∷ [], 5, 5)
     ∷ ("0100" ∷ "020100000000" ∷ [], 5, 5)
     ∷ (two ("03" ∷ []), 5, 21)
     ∷ (two ("0300" ∷ []), 5, 21)
@@ -168,10 +156,14 @@ bad-sizes =
     ∷ (two ("0400" ∷ []), 5, 21)
     ∷ []
 
+-- Number 4: symbols 64 and 65.
+abbrev bad-symbols : List Refusal
+bad-symbols = (replicate 64 "0100", 3, 320) ∷ (replicate 64 "0100" ++ "01" ∷ [], 4, 320) ∷ []
+
 -- Each of them is refused as stated.
-pub refusals : Holds bad-lines × Holds bad-kinds × Holds bad-rules × Holds bad-symbols × Holds bad-states × Holds bad-words × Holds bad-sizes
+pub refusals : Holds bad-lines × Holds bad-kinds × Holds bad-rules × Holds bad-numbers × Holds bad-sizes × Holds bad-symbols
 unfolding readTable readLines linesOf bytesOf digit step symbolFrame startFrame ruleFrame within below letters text children characters lines
-refusals = (refl, refl, refl, refl, refl, refl, refl)
+refusals = (refl, refl, refl, refl, refl, refl)
 
 -- Number 2: no closing 0a.
 pub feed-lacking : readTable (characters "0100\n04" []) ≡ refused 2 5
