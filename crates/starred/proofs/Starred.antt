@@ -27,17 +27,22 @@ use Rattle.starred.specs.Texts.{T, T-form, M1, M1-earliest, M2, turn}
 use Rattle.starred.specs.Cases.{Case, form, Holds, All, cases}
 
 -- A text that is read as M has the verdict that the companion computes of M.
-read-judged : (t : List ℕ) (M : Table) (v : Verdict) → readTable t ≡ given M → judge M ≡ v → JudgementAnswer t v
+pub read-judged : (t : List ℕ) (M : Table) (v : Verdict) → readTable t ≡ given M → judge M ≡ v → JudgementAnswer t v
 read-judged t M v e j = rw (e, ← j) (judge-judged M (read-limited t M e .made))
 
 -- T is read as the table on the left of the listing, and the form's text is that of the table on the right.
 listed : Holds (form T T-form)
-unfolding readTable readLines linesOf bytesOf digit step symbolFrame startFrame ruleFrame within below letters text children lines characters lineOf hexOf digitOf writeTable symbolLines rowLines initialFrame rowFrame childrenText judge judgeBy least known reached settle sweep visit spread follow markAll marked along total
+unfolding readTable readLines linesOf bytesOf digit step symbolFrame startFrame ruleFrame within below letters text children lines characters
+    lineOf hexOf digitOf writeTable symbolLines rowLines initialFrame rowFrame childrenText
+    judge judgeBy least known reached settle sweep visit spread follow markAll marked along total
 listed = (right, record { table = left; read = refl; judged = read-judged T left earliest refl refl; form = listing }, refl)
 
 -- Every starred case holds.
 pub starred : All cases
-unfolding wordAnswer wordRoom wordOn wordIn readTable readLines linesOf bytesOf digit step symbolFrame startFrame ruleFrame within below letters text children lines characters readTree treeAt forestAt word find lacks preorder spaces terms judge judgeBy least known reached settle sweep visit spread follow markAll marked along total
+unfolding wordAnswer wordRoom wordOn wordIn
+    readTable readLines linesOf bytesOf digit step symbolFrame startFrame ruleFrame within below letters text children lines characters
+    readTree treeAt forestAt word find lacks preorder spaces terms
+    judge judgeBy least known reached settle sweep visit spread follow markAll marked along total
 starred = (
   listed,
   (

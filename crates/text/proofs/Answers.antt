@@ -7,7 +7,7 @@ use Prim.Native.Nat.{ℕ, zero, suc}
 use Prim.Native.String.{String}
 use lib.Dec.{eqb}
 use lib.ListN.{replicate}
-use Rattle.words.specs.Reply.{Reply, given, refused}
+use Rattle.words.specs.Reply.{given, refused}
 use Rattle.machine.specs.Machine.{Table}
 use Rattle.machine.proofs.Small.{row, to}
 use Rattle.text.specs.Characters.{characters, lines}
