@@ -1,4 +1,5 @@
--- Texts worked out in the characters of document 01: its digits, a table that is read and written, and numbers 2 to 5 on both sides of each line.
+-- Texts worked out in the characters of document 01: its digits, a table that is read and written, and refusals on both sides of each line.
+-- The longest text is in Reading: text-most, text-over.
 use mathlib.Core.Path.{_≡_, refl}
 use mathlib.Core.Bool.{true, false}
 use mathlib.Core.List.{List, [], _∷_, _++_, map}
