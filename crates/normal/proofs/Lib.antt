@@ -17,7 +17,7 @@
 --   Forms      isForm-made, isForm-arities, isForm-agrees, isForm-apart, isForm-earliest: what a form is
 --              forms-agree, forms-same: one form exactly where the words agree; form-of-form
 --   Classes    earliest-known, earliest-listed, earliest-number: in an earliest table every state has the words of a listed one
---   Size       isForm-states, isForm-rows, isForm-shrunk, isForm-total: the form is never larger
+--   Size       isForm-states, isForm-rows, isForm-shrunk, isForm-total: the form is never larger. byNumber-keeps: its rows keep symbol and words
 --   Cases      listing, visited: the listing of document 01, and the order of the visit
 --   Lost       lost-apart, lost-trimmed: a trimmed table that is not earliest, with a state that has the words of no listed one
 pub mod Lists

@@ -1,14 +1,15 @@
 -- The form is never larger: its rows are rows of the table by number, each used at most once, and it has at most as many states.
-use mathlib.Core.Path.{_≡_, refl, sym, ap₂, _∙_}
+use mathlib.Core.Path.{_≡_, refl, sym, ap, ap₂, _∙_}
 use mathlib.Core.List.{List, [], _∷_, _++_, map}
 use mathlib.Core.Logic.{_≢_}
 use Prim.Native.Nat.{ℕ, zero, suc, _+_, _≤_}
 use native.Mathlib.Decide.{ℕ-discrete}
 use native.Mathlib.Omega.{arith}
 use lib.ListN.{length}
-use Rattle.machine.specs.Machine.{Row, Table, WellMade}
+use Rattle.words.specs.Word.{Word}
+use Rattle.machine.specs.Machine.{Child, Row, Table, WellMade}
 use Rattle.machine.specs.Form.{Test, Decides, order, rowsOf, renumber, renumbered, formOf, IsForm}
-use Rattle.normal.specs.Listed.{numberOf}
+use Rattle.normal.specs.Listed.{numberOf, numberedRest}
 use Rattle.normal.specs.Shrunk.{total, ByNumber, Shrunk}
 use Rattle.normal.specs.Pairs.{Pairs}
 use Rattle.normal.proofs.Lists.{All, all-map, Ordered, pairs-append}
@@ -64,6 +65,23 @@ module _ (size : Row → ℕ) where
   chosen-total : (rows : List Row) (qs : List ℕ) → Ordered _≢_ qs → total size (chosen rows qs) ≤ total size rows
   chosen-total [] qs h = rw (chosen-none qs) (omega arith)
   chosen-total (r ∷ rs) qs h = omega (arith, chosen-once r rs qs h, chosen-total rs qs h)
+
+-- The words after children.
+abbrev pub afters : List Child → List Word
+afters = map (λ c. c .after)
+
+-- They do not look at numbers.
+afters-kept : (number : ℕ → ℕ) (cs : List Child) → afters (numberedRest number cs) ≡ afters cs
+afters-kept number [] = refl
+afters-kept number (c ∷ cs) = ap (λ us. c .after ∷ us) (afters-kept number cs)
+
+-- The symbol and all words of a row.
+abbrev pub kept : Row → ℕ × Word × List Word
+kept r = (r .symbol, r .rule .first, afters (r .rule .rest))
+
+-- A row by number has those of its row.
+pub byNumber-keeps : (r s : Row) → ByNumber r s → kept s ≡ kept r
+byNumber-keeps r s (number, i, e) = ap kept e ∙ ap (λ us. (r .symbol, r .rule .first, us)) (afters-kept number (r .rule .rest))
 
 -- Rows by number have the same sum of a measure that does not look at numbers.
 total-byNumber : (size : Row → ℕ) → ((r s : Row) → ByNumber r s → size r ≡ size s) → (rs ss : List Row) → Pairs ByNumber rs ss → total size rs ≡ total size ss

@@ -1,2 +1,3 @@
--- The one theorem: every starred case holds.
+-- Every starred case holds; and so do the cases without a star.
 pub mod Starred
+pub mod Others

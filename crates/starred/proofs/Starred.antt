@@ -6,6 +6,7 @@ use Rattle.words.specs.Reply.{Reply, given, refused}
 use Rattle.words.specs.Word.{spaces, terms}
 use Rattle.machine.specs.Machine.{Table, find, word}
 use Rattle.machine.specs.Verdict.{Verdict, earliest, late, Judged}
+use Rattle.text.specs.Characters.{characters, lines}
 use Rattle.text.specs.Lines.{digit, bytesOf, linesOf, digitOf, hexOf, lineOf}
 use Rattle.text.specs.Fields.{within, below, letters, text, children}
 use Rattle.text.specs.Frames.{symbolFrame, startFrame, ruleFrame, step}
@@ -22,21 +23,26 @@ use Rattle.ends.specs.Cases.{m1, m1-earliest, m2, turn as turn-table}
 use Rattle.ends.proofs.Companion.{judge-judged}
 use Rattle.promises.specs.Word.{wordIn, wordOn, wordAnswer, wordRoom}
 use Rattle.promises.specs.Judgement.{JudgementAnswer}
-use Rattle.starred.specs.Texts.{lines, T, T-form, M1, M1-earliest, M2, turn}
+use Rattle.starred.specs.Texts.{T, T-form, M1, M1-earliest, M2, turn}
 use Rattle.starred.specs.Cases.{Case, form, Holds, All, cases}
 
 -- A text that is read as M has the verdict that the companion computes of M.
-read-judged : (t : List ℕ) (M : Table) (v : Verdict) → readTable t ≡ given M → judge M ≡ v → JudgementAnswer t v
+pub read-judged : (t : List ℕ) (M : Table) (v : Verdict) → readTable t ≡ given M → judge M ≡ v → JudgementAnswer t v
 read-judged t M v e j = rw (e, ← j) (judge-judged M (read-limited t M e .made))
 
 -- T is read as the table on the left of the listing, and the form's text is that of the table on the right.
 listed : Holds (form T T-form)
-unfolding readTable readLines linesOf bytesOf digit step symbolFrame startFrame ruleFrame within below letters text children lines lineOf hexOf digitOf writeTable symbolLines rowLines initialFrame rowFrame childrenText judge judgeBy least known reached settle sweep visit spread follow markAll marked along total
+unfolding readTable readLines linesOf bytesOf digit step symbolFrame startFrame ruleFrame within below letters text children lines characters
+    lineOf hexOf digitOf writeTable symbolLines rowLines initialFrame rowFrame childrenText
+    judge judgeBy least known reached settle sweep visit spread follow markAll marked along total
 listed = (right, record { table = left; read = refl; judged = read-judged T left earliest refl refl; form = listing }, refl)
 
 -- Every starred case holds.
 pub starred : All cases
-unfolding wordAnswer wordRoom wordOn wordIn readTable readLines linesOf bytesOf digit step symbolFrame startFrame ruleFrame within below letters text children lines lineOf hexOf digitOf readTree treeAt forestAt word find lacks preorder spaces terms judge judgeBy least known reached settle sweep visit spread follow markAll marked along total
+unfolding wordAnswer wordRoom wordOn wordIn
+    readTable readLines linesOf bytesOf digit step symbolFrame startFrame ruleFrame within below letters text children lines characters
+    readTree treeAt forestAt word find lacks preorder spaces terms
+    judge judgeBy least known reached settle sweep visit spread follow markAll marked along total
 starred = (
   listed,
   (

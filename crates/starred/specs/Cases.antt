@@ -1,15 +1,15 @@
 -- The starred cases as one table, and what it means that a case holds. Definitions only.
 use mathlib.Core.Path.{_≡_}
-use mathlib.Core.List.{List, [], _∷_}
+use mathlib.Core.List.{List, [], _∷_, _++_}
 use Prim.Native.Nat.{ℕ}
-use lib.ListN.{length}
+use lib.ListN.{length, replicate}
 use Rattle.words.specs.Word.{Word}
 use Rattle.words.specs.Reply.{Reply, given, refused}
 use Rattle.machine.specs.Verdict.{Verdict, earliest, late}
 use Rattle.promises.specs.Word.{wordAnswer, wordRoom, lettersOf}
 use Rattle.promises.specs.Judgement.{JudgementAnswer}
 use Rattle.promises.specs.Form.{FormText}
-use Rattle.starred.specs.Texts.{T, T-form, M1, M1-earliest, M2, turn}
+use Rattle.starred.specs.Texts.{T, T-form, M1, M1-earliest, M2, turn, M2-earliest, M2-form, counting, letters-32, letters-33}
 
 -- A table text, tree bytes and the room lent, with the word and its number of terms and the room after; or with the number of no and its place.
 -- A table text with its verdict. A table text with its form's text.
@@ -50,6 +50,18 @@ cases =
     ∷ verdict M2 (late 18 0)
     ∷ word turn (0x00 ∷ 0x01 ∷ 0x01 ∷ 0x02 ∷ []) five (0x62 ∷ 0x62 ∷ 0x61 ∷ []) 1 (0x62 ∷ 0x62 ∷ 0x61 ∷ 4 ∷ 5 ∷ [])
     ∷ verdict turn earliest
+    ∷ []
+
+-- The cases without a star, in document 01's order. The turn table's chain of a has depth 64, and then 65.
+abbrev pub others : List Case
+others =
+    verdict M2-earliest earliest
+    ∷ form M2-earliest M2-form
+    ∷ word counting (0x00 ∷ 0x00 ∷ 0x01 ∷ 0x02 ∷ 0x01 ∷ []) five (replicate 5 0x63) 1 (replicate 5 0x63)
+    ∷ word turn (replicate 63 0x00 ++ 0x02 ∷ []) (replicate 63 0) (replicate 63 0x61) 1 (replicate 63 0x61)
+    ∷ no-word turn (replicate 64 0x00 ++ 0x02 ∷ []) five 10 64
+    ∷ word letters-32 (0x00 ∷ []) (replicate 32 0) (replicate 32 0x61) 1 (replicate 32 0x61)
+    ∷ no-word letters-33 (0x00 ∷ []) five 4 5
     ∷ []
 
 -- Every case of a list holds.

@@ -1,4 +1,5 @@
 -- The laws of table texts.
+pub mod Answers
 pub mod Digits
 pub mod Lines
 pub mod Fields

@@ -80,3 +80,10 @@ read-fit t h k = neither (eqb (length t) 0) (ltb textMost (length t)) (ne-eqb (l
   where
     neither : (a b : Bool) → a ≡ false → b ≡ false → refuse-if (a || b) 1 0 (readLines (symbols []) 0 (linesOf t)) ≡ readLines (symbols []) 0 (linesOf t)
     neither a b e f = rw (e, f)
+
+-- By document 01's number: 32,768 bytes are read, and 32,769 are not.
+text-most : (t : List ℕ) → length t ≡ 32768 → readTable t ≡ readLines (symbols []) 0 (linesOf t)
+text-most t h = read-fit t (omega arith) (omega arith)
+
+text-over : (t : List ℕ) → length t ≡ 32769 → readTable t ≡ refused 1 0
+text-over t h = read-long t (omega arith)
