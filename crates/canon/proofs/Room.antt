@@ -10,6 +10,7 @@ use lib.Dec.{ltb}
 use lib.ListN.{length, getD, set, take, drop, length-append}
 use lib.Seq.{sets, sets-eq, set-out, take-suc, take-all}
 use borrow.Author.Tests.{ltb-true, ltb-false}
+use Rattle.text.proofs.Digits.{hex-append}
 use Rattle.text.specs.Lines.{digitOf, hexOf, lineOf}
 use Rattle.canon.specs.Room.{Wrote}
 
@@ -52,12 +53,6 @@ wrote-filled {R} {ws} {S} {n} w h = w .bytes ∙ sets-eq ws R 0 (omega arith) �
   where
     place : 0 + length ws ≡ length ws
     place = omega arith
-
--- The digits of two lists, one behind the other.
-pub hex-append : (us vs : List ℕ) → hexOf (us ++ vs) ≡ hexOf us ++ hexOf vs
-unfolding hexOf
-hex-append [] vs = refl
-hex-append (u ∷ us) vs = rw (hex-append us vs)
 
 -- The digits of a frame, and then a line feed, are its line.
 pub line-ends : (frame : List ℕ) → hexOf frame ++ 10 ∷ [] ≡ lineOf frame

@@ -12,7 +12,8 @@ use Rattle.layout.specs.Leaves.{wordAt, behindAt}
 use Rattle.canon.specs.Room.{Wrote}
 use Rattle.canon.specs.Bytes.{textAt, childrenAt, endAt, span, rowAt}
 use Rattle.canon.specs.Promises.{Renumbers}
-use Rattle.canon.proofs.Room.{sets-append, hex-append}
+use Rattle.text.proofs.Digits.{hex-append}
+use Rattle.canon.proofs.Room.{sets-append}
 use Rattle.canon.proofs.Written.{children-next, children-none}
 
 -- A store before others' places may come first.

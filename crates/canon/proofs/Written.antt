@@ -9,7 +9,8 @@ use Rattle.text.specs.Lines.{hexOf, lineOf}
 use Rattle.layout.specs.Leaves.{wordAt, behindAt}
 use Rattle.canon.specs.Room.{Wrote}
 use Rattle.canon.specs.Bytes.{textAt, childrenAt, rowAt, symbolsAt, initialAt}
-use Rattle.canon.proofs.Room.{wrote-none, wrote-then, wrote-as, hex-append}
+use Rattle.text.proofs.Digits.{hex-append}
+use Rattle.canon.proofs.Room.{wrote-none, wrote-then, wrote-as}
 
 -- The digits of a byte that is another's.
 pub wrote-byte : {R S : List ℕ} {a b n m : ℕ} → n ≡ m → Wrote R a (hexOf (n ∷ [])) S b → Wrote R a (hexOf (m ∷ [])) S b

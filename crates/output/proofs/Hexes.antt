@@ -9,16 +9,10 @@ use lib.ListN.{length, take, drop, getD, set, length-append, length-take, length
 use lib.Seq.{take-suc, drop-cons, set-at, take-at, take-all, take-add, append-snoc, length-take-le}
 use borrow.Rule.Slice.PartMut.{putMid}
 use Rattle.text.specs.Lines.{digitOf, hexOf}
-use Rattle.text.proofs.Digits.{length-hex}
+use Rattle.text.proofs.Digits.{length-hex, hex-append}
 use Rattle.output.specs.Queue.{stopped, Queued, Flushed}
 use Rattle.output.proofs.Queues.{queued-failed}
 use Rattle.output.specs.Places.{Spelt, TwoPlaces}
-
--- The digits of bytes one after the other.
-pub hex-append : (xs ys : List ℕ) → hexOf (xs ++ ys) ≡ hexOf xs ++ hexOf ys
-unfolding hexOf
-hex-append [] ys = refl
-hex-append (x ∷ xs) ys = rw (hex-append xs ys)
 
 -- The first i bytes have 2 i digits.
 front-digits : (bytes : List ℕ) (i : ℕ) → i ≤ length bytes → length (hexOf (take i bytes)) ≡ i * 2

@@ -1,7 +1,7 @@
 -- Hexadecimal digits: bytes are read back from their digits, and from nothing else.
 use mathlib.Core.Path.{_≡_, refl, sym, ap, _∙_}
 use mathlib.Core.Bool.{Bool, true, false, _&&_}
-use mathlib.Core.List.{List, [], _∷_}
+use mathlib.Core.List.{List, [], _∷_, _++_}
 use mathlib.Core.Option.{Option, none, some, Option·some-injective, Option·none-ne-some}
 use Prim.Native.Nat.{ℕ, _+_, _-_, _*_, _/_, _%_, _<_, _≤_}
 use native.Mathlib.Omega.{arith}
@@ -80,6 +80,12 @@ pub length-hex : (bs : List ℕ) → length (hexOf bs) ≡ 2 * length bs
 unfolding hexOf
 length-hex [] = refl
 length-hex (b ∷ bs) = omega (arith, length-hex bs)
+
+-- The digits of two lists, one behind the other.
+pub hex-append : (us vs : List ℕ) → hexOf (us ++ vs) ≡ hexOf us ++ hexOf vs
+unfolding hexOf
+hex-append [] vs = refl
+hex-append (u ∷ us) vs = rw (hex-append us vs)
 
 -- Bytes are read back from their digits.
 pub hex-bytes : (bs : List ℕ) → AtMost 255 bs → bytesOf (hexOf bs) ≡ some bs
