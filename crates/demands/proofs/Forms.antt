@@ -21,7 +21,7 @@ use Rattle.text.proofs.RoundTrip.{write-injective}
 use Rattle.canon.proofs.Short.{form-short, form-limited}
 use Rattle.promises.specs.Form.{FormOfText, FormText}
 use Rattle.promises.specs.Comparison.{same, different, ComparisonAnswer}
-use Rattle.demands.proofs.Judgement.{judged-as}
+use Rattle.promises.proofs.Judgement.{judged-as}
 
 -- What a text's form says of the table M that the text is read as.
 pub record Formed (text : List ℕ) (M F : Table) : Type 0 where

@@ -1,10 +1,9 @@
--- Demand 1: the form call has one answer for a text and so much room, and the comparison call one for two texts. For the judgement call see Judgement.judgement-one.
+-- Demand 1: the form call has one answer for a text and so much room, and the comparison call one for two texts. For the judgement see promises, Judgement.
 use mathlib.Core.Path.{_≡_, refl, sym, ap, subst, _∙_}
-use mathlib.Core.List.{List, [], _∷_}
+use mathlib.Core.List.{List}
 use mathlib.Core.Option.{Option, none, some}
 use Prim.Native.Nat.{ℕ, zero, suc}
 use native.Mathlib.Omega.{arith}
-use borrow.Author.Tests.{eq-eqb}
 use Rattle.words.specs.Reply.{Reply, given, refused}
 use Rattle.words.proofs.Replies.{given-injective}
 use Rattle.machine.specs.Machine.{Table}
@@ -16,16 +15,10 @@ use Rattle.text.proofs.Back.{read-limited}
 use Rattle.promises.specs.Room.{into}
 use Rattle.promises.specs.Judgement.{JudgementAnswer}
 use Rattle.promises.specs.Form.{FormOfText, FormText, FormAnswer}
-use Rattle.promises.specs.Comparison.{Comparison, same, different, parting, later, Forms, ComparisonAnswer}
+use Rattle.promises.specs.Comparison.{Comparison, same, different, parting, Forms, ComparisonAnswer}
 use Rattle.promises.specs.Comparison as comparison
-use Rattle.demands.proofs.Judgement.{judgement-one}
-
--- A text is judged earliest or late, and not both.
-not-both : (text : List ℕ) (n p : ℕ) → JudgementAnswer text earliest → JudgementAnswer text (late n p) → ⊥
-not-both text n p h k =
-    let e = judgement-one text earliest (late n p) h k in
-    let z : _≡_ {A = ℕ} 0 1 = cc in
-    omega arith
+use Rattle.promises.proofs.Comparison.{parting-none}
+use Rattle.promises.proofs.Judgement.{judgement-one, not-both}
 
 -- A text has one form.
 pub form-of-text-one : (text : List ℕ) (F G : Table) → FormOfText text F → FormOfText text G → F ≡ G
@@ -44,12 +37,6 @@ form-text-one text (refused n p) (refused m r) h k = let e = judgement-one text 
 pub form-one : (text : List ℕ) (room : ℕ) (a b : Reply (List ℕ)) → FormAnswer text room a → FormAnswer text room b → a ≡ b
 form-one text room a b h k = h .2 ∙ ap (into room) (form-text-one text (h .0) (k .0) (h .1) (k .1)) ∙ sym (k .2)
 
--- A symbol list does not part from itself.
-parting-self : (xs : List ℕ) → parting xs xs ≡ none
-unfolding parting
-parting-self [] = refl
-parting-self (x ∷ xs) = rw (parting, eq-eqb x x refl) (ap later (parting-self xs))
-
 -- Two symbol lists do not both part and not part.
 none-some : (o : Option ℕ) (p : ℕ) → o ≡ none → o ≡ some p → ⊥
 none-some o p e h = let z : _≡_ {A = ℕ} 0 1 = cc in omega arith
@@ -63,7 +50,7 @@ module _ (F G : Table) where
 
   -- Equal forms have one symbol list.
   one-list : (p : ℕ) → F ≡ G → parting (F .arities) (G .arities) ≡ some p → ⊥
-  one-list p e = none-some (parting (F .arities) (G .arities)) p (sym (ap (λ (H : Table). parting (F .arities) (H .arities)) e) ∙ parting-self (F .arities))
+  one-list p e = none-some (parting (F .arities) (G .arities)) p (parting-none (F .arities) (G .arities) .1 (ap (λ (H : Table). H .arities) e))
 
   outcome-one : (a b : Comparison) → Outcome a → Outcome b → a ≡ b
   outcome-one _ _ (one-form e) (one-form i) = refl

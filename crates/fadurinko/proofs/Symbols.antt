@@ -1,5 +1,5 @@
 -- Where symbol lists part, and bytes that are the same. Assumes nothing.
-use mathlib.Core.Path.{_≡_, refl, sym, ap, _∙_}
+use mathlib.Core.Path.{_≡_, sym, ap, _∙_}
 use mathlib.Core.Bool.{Bool, true, false}
 use mathlib.Core.List.{List, [], _∷_, _++_}
 use mathlib.Core.Option.{Option, none, some}
@@ -17,17 +17,12 @@ use Rattle.text.specs.Writing.{AtMost, symbolLines}
 use Rattle.text.proofs.Digits.{digit-digitOf}
 use Rattle.layout.proofs.Modest.{at-most}
 use Rattle.promises.specs.Comparison.{parting, later}
+use Rattle.promises.proofs.Comparison as comparison
 use Rattle.fadurinko.specs.Parts.{Front, Symbols, SameAt, AlikeFor}
 
 -- Symbol lists that are the same part nowhere.
 pub parting-none : (xs ys : List ℕ) → length xs ≡ length ys → ((j : ℕ) → j < length xs → getD xs j 0 ≡ getD ys j 0) → parting xs ys ≡ none
-unfolding parting
-parting-none [] [] l e = refl
-parting-none [] (y ∷ ys) l e = absurd (omega arith)
-parting-none (x ∷ xs) [] l e = absurd (omega arith)
-parting-none (x ∷ xs) (y ∷ ys) l e =
-    ap (λ (b : Bool). elim b as (λ x. Option ℕ) [ true ↦ later (parting xs ys) | false ↦ some zero ]) (eq-eqb x y (e 0 (omega arith)))
-    ∙ ap later (parting-none xs ys (omega arith) (λ j h. e (suc j) (omega arith)))
+parting-none xs ys l e = comparison.parting-none xs ys .1 (ext-getD 0 xs ys l e)
 
 -- Symbol lists that are the same before i, and differ at i or end there, part at i.
 pub parting-some : (xs ys : List ℕ) (i : ℕ) → i ≤ length xs → i ≤ length ys → ((j : ℕ) → j < i → getD xs j 0 ≡ getD ys j 0)

@@ -12,7 +12,7 @@ use Rattle.table.specs.declared.Opening.the-variants as opening
 use Rattle.table.proofs.One.{open-one}
 use lib.ListN.{length}
 use Rattle.promises.specs.Form.{formRoom}
-use Rattle.demands.proofs.Judgement.{judgement-one}
+use Rattle.promises.proofs.Judgement.{judgement-one}
 use Rattle.demands.proofs.Settled.{form-one, comparison-one}
 use Rattle.fadurinko_c.specs.Linked.{Lent, JudgedLinked, OpenLinked, FormLinked, ComparedLinked, numberOf, firstOf, verdictNumber, verdictPlace}
 use Rattle.fadurinko_c.specs.Linked as linked

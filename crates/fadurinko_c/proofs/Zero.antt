@@ -16,7 +16,6 @@ use Rattle.text.specs.Reading.{readTable}
 use Rattle.text.proofs.Refusals as text
 use Rattle.trees.specs.Shape.{readTree}
 use Rattle.trees.specs.Lacking.{lacks}
-use Rattle.trees.specs.Causes.{Cause, size, unknown, early, deep, behind}
 use Rattle.trees.proofs.Refusals as trees
 use Rattle.promises.specs.Room.{into}
 use Rattle.promises.specs.Word.{wordOr, wordIn, wordOn, wordInto, wordAnswer}
@@ -50,15 +49,8 @@ if-numbered false n p a h i = i
 text-numbered : (t : List ℕ) → Numbered (readTable t)
 text-numbered t = numbered (readTable t) (λ n p e. text.read-refused t n p e .0)
 
-cause-numbered : (ar bs : List ℕ) (x q : ℕ) → Cause ar bs x q → 1 ≤ x
-cause-numbered ar bs x q (size e a b) = omega arith
-cause-numbered ar bs x q (unknown e a b c d f) = omega arith
-cause-numbered ar bs x q (early e a b c d) = omega arith
-cause-numbered ar bs x q (deep e a b c d) = omega arith
-cause-numbered ar bs x q (behind e a b c d f g) = omega arith
-
 tree-numbered : (ar bs : List ℕ) → Numbered (readTree ar bs)
-tree-numbered ar bs = numbered (readTree ar bs) (λ n p e. cause-numbered ar bs n p (trees.read-refused ar bs n p .0 e))
+tree-numbered ar bs = numbered (readTree ar bs) (λ n p e. omega (arith, trees.cause-number (trees.read-refused ar bs n p .0 e) .0))
 
 or-numbered : (w : Option Word) (p : Option ℕ) → Numbered (wordOr w p)
 or-numbered (some w) p = tt

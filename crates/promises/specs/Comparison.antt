@@ -3,8 +3,9 @@ use mathlib.Core.Path.{_≡_}
 use mathlib.Core.Bool.{true, false}
 use mathlib.Core.List.{List, [], _∷_}
 use mathlib.Core.Option.{Option, none, some}
-use Prim.Native.Nat.{ℕ, zero, suc}
+use Prim.Native.Nat.{ℕ, zero, suc, _<_}
 use lib.Dec.{eqb}
+use lib.ListN.{getElem?}
 use Rattle.machine.specs.Machine.{Table}
 use Rattle.machine.specs.Verdict.{earliest, late}
 use Rattle.promises.specs.Judgement.{JudgementAnswer}
@@ -26,6 +27,11 @@ parting [] [] = none
 parting [] (b ∷ bs) = some zero
 parting (a ∷ more) [] = some zero
 parting (a ∷ more) (b ∷ bs) = elim (eqb a b) [ true ↦ later (parting more bs) | false ↦ some zero ]
+
+-- At index i the lists differ or one of them has ended, and before it they do not differ.
+pub record PartsAt (xs ys : List ℕ) (i : ℕ) : Type 0 where
+  pub apart : getElem? xs i ≡ getElem? ys i → ⊥
+  pub before : (j : ℕ) → j < i → getElem? xs j ≡ getElem? ys j
 
 -- Two earliest tables' forms, and their symbol lists.
 pub record Forms (first second : List ℕ) (F G : Table) : Type 0 where

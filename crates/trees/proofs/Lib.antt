@@ -6,5 +6,7 @@ pub mod Whole
 pub mod Stops
 pub mod Stopped
 pub mod Refusals
+pub mod First
 pub mod Lacking
 pub mod Places
+pub mod Output

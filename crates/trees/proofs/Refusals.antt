@@ -56,7 +56,7 @@ alone-cause ar bs x q s r a e =
     let l : length bs ≡ length (preorder (r .value)) + length (r .left) = ap length (a .is) ∙ length-append (preorder (r .value)) (r .left) in
     behind (i .1) s (omega arith) (r .value) (a .ranks) (a .levels) (rw (a .is) (take-at (preorder (r .value)) (r .left) q (sym j))))
     (λ i. absurd (given-refused (r .value) x q (i .1)))
-    (refuse-refused (not (eqb (length (r .left)) 0)) 11 (r .place) (given (r .value)) x q e)
+    (refuse-refused (not (eqb (length (r .left)) 0)) _ _ (given (r .value)) x q e)
 
 -- A refusal has its cause.
 pub refused-cause : (ar bs : List ℕ) (x q : ℕ) → readTree ar bs ≡ refused x q → Cause ar bs x q
@@ -68,7 +68,7 @@ refused-cause ar bs x q e =
     stops-cause ar bs x q (size-right bs (i .0)) (s .m) (s .u) (s .rest) (s .begun) (s .is) (omega (arith, s .place)) (s .why))
     (λ j. alone-cause ar bs x q (size-right bs (i .0)) (j .0) (tree-sound depthMost ar 0 bs (j .0) (j .1)) (j .2))
     (then-refused (treeAt depthMost ar 0 bs) alone x q (i .1)))
-    (refuse-refused (wrongSize bs) 6 0 (treeAt depthMost ar 0 bs then alone) x q e)
+    (refuse-refused (wrongSize bs) _ _ (treeAt depthMost ar 0 bs then alone) x q e)
 
 -- What stops at place q, in bytes of the right size, is refused there.
 stops-refused : (ar bs : List ℕ) (x q : ℕ) → Sized bs → Stops ar depthMost 0 bs x q → readTree ar bs ≡ refused x q
@@ -100,3 +100,11 @@ cause-refused ar bs x q (behind i s l t r v k) =
 -- The two together.
 pub read-refused : (ar bs : List ℕ) (x q : ℕ) → (readTree ar bs ≡ refused x q) ↔ Cause ar bs x q
 read-refused ar bs x q = (refused-cause ar bs x q, cause-refused ar bs x q)
+
+-- The number of a cause is 6, 7, 8, 10 or 11.
+pub cause-number : {ar bs : List ℕ} {x q : ℕ} → Cause ar bs x q → (6 ≤ x) × (x ≤ 11) × (x ≡ 9 → ⊥)
+cause-number (size i j k) = (omega arith, omega arith, λ e. omega arith)
+cause-number (unknown i s l h m b) = (omega arith, omega arith, λ e. omega arith)
+cause-number (early i s l m b) = (omega arith, omega arith, λ e. omega arith)
+cause-number (deep i s l h b) = (omega arith, omega arith, λ e. omega arith)
+cause-number (behind i s l t r v k) = (omega arith, omega arith, λ e. omega arith)

@@ -12,7 +12,7 @@ use Rattle.words.specs.Reply.{given, refused}
 use Rattle.machine.specs.Machine.{Tree, Forest, node, ∅, _▸_}
 use Rattle.machine.specs.Ranks.{count, Ranked, Rankeds}
 use Rattle.trees.specs.Preorder.{preorder, preorders, Levels, Levelss}
-use Rattle.trees.specs.Shape.{Read, forestAt, nodeAt, treeAt}
+use Rattle.trees.specs.Shape.{Read, forestAt, treeAt}
 use Rattle.words.proofs.Replies.{given-refused, given-injective, refuse-given, then-given}
 
 -- What was read from place p on of bytes bs is a ranked tree of at most n levels, and the bytes are its preorder and what is left.
@@ -54,11 +54,11 @@ forest-sound ar n one (suc k) p bs r e =
 -- Soundness: what is read is a ranked tree of at most n levels, and the bytes are its preorder and what is left.
 pub tree-sound : (n : ℕ) (ar : List ℕ) (p : ℕ) (bs : List ℕ) (r : Read Tree) → treeAt n ar p bs ≡ given r → IsTree ar n p bs r
 unfolding treeAt Levels preorder
-tree-sound zero ar p [] r e = absurd (given-refused r 8 p (sym e))
-tree-sound zero ar p (f ∷ bs) r e = absurd (given-refused r 10 p (sym (refuse-given (not (ltb f (length ar))) 7 p (refused 10 p) r e .1)))
-tree-sound (suc n) ar p [] r e = absurd (given-refused r 8 p (sym e))
+tree-sound zero ar p [] r e = absurd (given-refused r _ _ (sym e))
+tree-sound zero ar p (f ∷ bs) r e = absurd (given-refused r 10 p (sym (refuse-given (not (ltb f (length ar))) _ _ (refused 10 p) r e .1)))
+tree-sound (suc n) ar p [] r e = absurd (given-refused r _ _ (sym e))
 tree-sound (suc n) ar p (f ∷ bs) r e =
-    let i = refuse-given (not (ltb f (length ar))) 7 p (nodeAt f (forestAt (treeAt n ar) (getD ar f 0)) p bs) r e in
+    let i = refuse-given (not (ltb f (length ar))) _ _ _ r e in
     let j = then-given (forestAt (treeAt n ar) (getD ar f 0) (suc p) bs) _ r (i .1) in
     let b = forest-sound ar n (tree-sound n ar) (getD ar f 0) (suc p) bs (j .0) (j .1) in
     subst (λ (x : Read Tree). IsTree ar (suc n) p (f ∷ bs) x) (given-injective _ r (j .2))

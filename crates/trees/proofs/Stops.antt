@@ -13,7 +13,7 @@ use Rattle.words.specs.Reply.{refused}
 use Rattle.machine.specs.Machine.{Tree, Forest, ∅, _▸_}
 use Rattle.machine.specs.Ranks.{count, Rankeds}
 use Rattle.trees.specs.Preorder.{preorder, preorders, Levelss}
-use Rattle.trees.specs.Shape.{Read, forestAt, nodeAt, treeAt}
+use Rattle.trees.specs.Shape.{Read, forestAt, treeAt}
 use Rattle.trees.specs.Causes.{Begun, here, below}
 use Rattle.words.proofs.Replies.{given-refused, refused-injective, refuse-refused, then-refused}
 use Rattle.trees.proofs.Shape.{IsTree, tree-sound}
@@ -89,7 +89,7 @@ stops-below ar n p f bs x q h b =
       m = b .stops .m;
       u = f ∷ (preorders (b .ts) ++ b .stops .u);
       rest = b .stops .rest;
-      begun = below f (b .ts) (b .stops .u) h (b .few) (b .ranks) (b .levels) refl (b .stops .begun);
+      begun = below f (b .ts) (b .stops .u) h (omega (arith, b .few)) (b .ranks) (b .levels) refl (b .stops .begun);
       is = ap (λ (z : List ℕ). f ∷ z) (b .is ∙ ap (λ (z : List ℕ). preorders (b .ts) ++ z) (b .stops .is) ∙ sym (append-assoc (preorders (b .ts)) (b .stops .u) (b .stops .rest)));
       place = omega (arith, b .stops .place, length-append (preorders (b .ts)) (b .stops .u));
       why = b .stops .why;
@@ -103,11 +103,11 @@ tree-stops zero ar p (f ∷ bs) x q e =
     ⊎-elim (λ i. at-once ar zero p (f ∷ bs) 7 x q (strange refl f bs refl (ltb-false f (length ar) (not-true (ltb f (length ar)) (i .0)))) (i .1) (i .2))
     (λ i. let j = refused-injective {A = Read Tree} 10 p x q (i .1) in
     at-once ar zero p (f ∷ bs) 10 x q (under refl f bs refl (ltb-true f (length ar) (not-false (ltb f (length ar)) (i .0))) refl) (j .0) (j .1))
-    (refuse-refused (not (ltb f (length ar))) 7 p (refused 10 p) x q e)
+    (refuse-refused (not (ltb f (length ar))) _ _ _ x q e)
 tree-stops (suc n) ar p [] x q e = let i = refused-injective {A = Read Tree} 8 p x q e in at-once ar (suc n) p [] 8 x q (ended refl refl) (i .0) (i .1)
 tree-stops (suc n) ar p (f ∷ bs) x q e =
     ⊎-elim (λ i. at-once ar (suc n) p (f ∷ bs) 7 x q (strange refl f bs refl (ltb-false f (length ar) (not-true (ltb f (length ar)) (i .0)))) (i .1) (i .2))
     (λ i. ⊎-elim (λ j. stops-below ar n p f bs x q (ltb-true f (length ar) (not-false (ltb f (length ar)) (i .0))) (forest-stops ar n (tree-stops n ar) (getD ar f 0) (suc p) bs x q j))
     (λ j. absurd (given-refused _ x q (j .2)))
     (then-refused (forestAt (treeAt n ar) (getD ar f 0) (suc p) bs) _ x q (i .1)))
-    (refuse-refused (not (ltb f (length ar))) 7 p (nodeAt f (forestAt (treeAt n ar) (getD ar f 0)) p bs) x q e)
+    (refuse-refused (not (ltb f (length ar))) _ _ _ x q e)

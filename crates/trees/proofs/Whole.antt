@@ -51,14 +51,14 @@ wrong-size bs (inr h) = rw (lt-ltb treeMost (length bs) h) (or-true (eqb (length
 -- A tree is given alone only if nothing is left behind it.
 pub alone-given : (r : Read Tree) (t : Tree) → alone r ≡ given t → (r .value ≡ t) × (r .left ≡ [])
 alone-given r t e =
-    let i = refuse-given (not (eqb (length (r .left)) 0)) 11 (r .place) (given (r .value)) t e in
+    let i = refuse-given (not (eqb (length (r .left)) 0)) _ _ (given (r .value)) t e in
     (given-injective (r .value) t (i .1), no-length (r .left) (eqb-true (length (r .left)) 0 (not-false (eqb (length (r .left)) 0) (i .0))))
 
 -- Reading is sound.
 pub read-sound : (ar bs : List ℕ) (t : Tree) → readTree ar bs ≡ given t → (bs ≡ preorder t) × Ranked ar t × Levels t 64 × (length bs ≤ 32768)
 unfolding readTree
 read-sound ar bs t e =
-    let i = refuse-given (wrongSize bs) 6 0 (treeAt depthMost ar 0 bs then alone) t e in
+    let i = refuse-given (wrongSize bs) _ _ (treeAt depthMost ar 0 bs then alone) t e in
     let j = then-given (treeAt depthMost ar 0 bs) alone t (i .1) in
     let a = tree-sound depthMost ar 0 bs (j .0) (j .1) in
     let k = alone-given (j .0) t (j .2) in (

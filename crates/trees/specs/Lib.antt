@@ -2,4 +2,5 @@
 pub mod Preorder
 pub mod Shape
 pub mod Lacking
+pub mod Standing
 pub mod Causes
