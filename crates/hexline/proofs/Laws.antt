@@ -1,9 +1,9 @@
 -- Laws of a line of hexadecimal that comes in pieces: what bytes it is with more characters, and what the line so far tells then.
-use mathlib.Core.Path.{_≡_, refl, ap, _∙_}
+use mathlib.Core.Path.{_≡_, refl, sym, ap, subst, _∙_}
 use mathlib.Core.Bool.{Bool, true, false}
 use mathlib.Core.List.{List, [], _∷_, _++_, append-assoc, append-nil}
 use mathlib.Core.Logic.{inl, inr}
-use mathlib.Core.Option.{Option, none, some}
+use mathlib.Core.Option.{Option, none, some, Option·some-injective, Option·none-ne-some}
 use Prim.Native.Nat.{ℕ, suc, _+_, _-_, _*_, _/_, _%_, _<_, _≤_}
 use native.Mathlib.Numerals.{add-one}
 use native.Mathlib.Omega.{arith}
@@ -226,3 +226,12 @@ module _ {P T₀ : List ℕ} {l₀ : SoFar} {T : List ℕ} {l : SoFar} {n : ℕ}
 -- What was taken of the part of a piece from `at` on ends inside the piece.
 pub taken-inside : (piece : List ℕ) (at n : ℕ) → Taken (take (length piece - at) (drop at piece)) n → at ≤ length piece → at + n ≤ length piece
 taken-inside piece at n t h = omega (arith, t .inside, length-take (length piece - at) (drop at piece), length-drop at piece)
+
+-- Characters that are bytes are held in the tree, as many as have a place.
+pub held-bytes : (cs T bs : List ℕ) (l : SoFar) → Held cs T l → bytesOf cs ≡ some bs → Kept bs T (l .bytes)
+held-bytes cs T bs l h e = go (h .state)
+  where
+    go : State cs T l → Kept bs T (l .bytes)
+    go (whole xs b f g k) = subst (λ (ys : List ℕ). Kept ys T (l .bytes)) (Option·some-injective _ _ (sym g ∙ e)) k
+    go (waits front xs c b f g d i k) = absurd (Option·none-ne-some bs (sym (bytes-odd front xs c i) ∙ ap bytesOf (sym g) ∙ e))
+    go (strange b n) = absurd (Option·none-ne-some bs (sym (n []) ∙ ap bytesOf (append-nil cs) ∙ e))

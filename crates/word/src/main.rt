@@ -1,7 +1,6 @@
 // The words of many trees under one table. `word TABLEFILE` reads the table text from the file and
 // trees from standard input, one a line in lowercase hexadecimal, and answers each with one line:
 // `word LENGTH TERMS HEX`, `no NUMBER PLACE` or `not hex`.
-mod reply;
 mod report;
 mod stream;
 

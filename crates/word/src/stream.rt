@@ -1,7 +1,6 @@
 // The lines of standard input, answered one after the other: the input is read in large pieces, and
 // the answers to a piece wait in a large buffer and are written before the next piece is read. So
 // memory is the same however long the input is, and no answer waits while the input pauses.
-use crate::reply;
 use crate::report;
 use crate::report::Watch;
 use desk::Input;
@@ -36,7 +35,7 @@ fn answer(
     counts: &mut [u64],
     used: usize,
 ) -> usize {
-    let said = reply::to_line(line, opening, frames, index, tree, plan, room, out, used);
+    let said = respond::to_line(line, opening, frames, index, tree, plan, room, out, used);
     answers::raise(counts, said.counted);
     said.used
 }

@@ -1,11 +1,27 @@
-// Which answer a line gets.
+// The line that answers a line of hexadecimal: the word of its tree under an opened table, a refusal,
+// or that it is not hexadecimal.
 use finder::Found;
 use hexline::SoFar;
 use layout::Head;
 use layout::Refusal;
 use table::Opening;
+ghost use mathlib.Core.Path.{_≡_};
+ghost use mathlib.Core.List.{List};
+ghost use Prim.Native.Nat.{ℕ, _<_};
+ghost use lib.ListN.{length};
+ghost use Rattle.words.specs.Reply.{Reply, refused as Reply·refused};
+ghost use Rattle.machine.specs.Machine.{Table};
+ghost use Rattle.text.specs.Lines.{bytesOf};
+ghost use Rattle.trees.specs.Shape.{treeMost};
+ghost use Rattle.promises.specs.Word.{wordInto};
+ghost use Rattle.layout.specs.Layout.{Opened};
+ghost use Rattle.layout.specs.Leaves.{headOf};
+ghost use Rattle.table.specs.Opening.{Opens};
+ghost use Rattle.hexline.specs.SoFar.{Held};
+ghost use Rattle.respond.specs.Response.{Responds, Answered};
 
-// Where a word, a refusal or a line that is not hexadecimal is counted: at 0, at its number, at 20.
+// Where an answer is counted: a word at 0, a refusal at its number, a line that is not hexadecimal
+// here.
 pub const STRANGE: usize = 20;
 
 // How many bytes wait to be written, and where the answer is counted.
@@ -15,14 +31,16 @@ pub struct Said {
 }
 
 // A refusal: its number and place.
-fn refused(refusal: Refusal, out: &mut [u8], used: usize) -> Said {
+fn refused(refusal: Refusal, out: &mut [u8], used: usize) -> Said
+    ensures { λ r. ⌜ Responds (Reply·refused (refusal .number) (refusal .place)) (now (out .entry)) used (now (out .exit)) r ⌝ }
+{
     let numbers = [refusal.number as u64, refusal.place as u64];
     let used = answers::put_no(&numbers, out, used);
     let counted = layout::wide(refusal.number);
     Said { used, counted }
 }
 
-// The answer to the tree of a line by an opened table.
+// The answer to a tree by an opened table.
 fn to_tree(
     head: Head,
     frames: &[u8; 16448],
@@ -32,7 +50,10 @@ fn to_tree(
     room: &mut [u8],
     out: &mut [u8],
     used: usize,
-) -> Said {
+) -> Said
+    ensures { λ r. ⌜ ((M : Table) → Opened (now (frames .entry)) (now (index .entry)) M → head ≡ headOf M
+        → Responds (wordInto M (now (tree .entry)) (length (now (room .entry)))) (now (out .entry)) used (now (out .exit)) r) ⌝ }
+{
     match swift::find(frames, index, head, tree, plan, room) {
         Found::Word(found) => {
             let letters = output::front(room, found.length);
@@ -54,7 +75,11 @@ pub fn to_line(
     room: &mut [u8],
     out: &mut [u8],
     used: usize,
-) -> Said {
+) -> Said
+    ensures { λ r. ⌜ ((cs : List ℕ) (t : Reply Table) → Held cs (now (bytes .entry)) line → treeMost < length (now (bytes .entry))
+        → Opens (now (frames .entry)) (now (index .entry)) t opening
+        → Answered t (bytesOf cs) (length (now (room .entry))) (now (out .entry)) used (now (out .exit)) r) ⌝ }
+{
     if !hexline::is_hex(line) {
         let used = output::put_all(b"not hex\n", out, used);
         return Said {

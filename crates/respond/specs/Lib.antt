@@ -1,0 +1,2 @@
+-- The line that answers a line of hexadecimal.
+pub mod Response
