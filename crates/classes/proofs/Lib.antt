@@ -4,7 +4,7 @@
 --   Kids       rules with the same words compared by their entries' children
 --   Pairs      what a round leaves together is an equivalence, and the least of each class names it
 --   Slack      stores that only raise numbers
---   Settled    no round parts states with the same words, and what a round leaves as it was are the classes
+--   Settled    no round parts twins, and what a round leaves as it was are their classes; twin-classes, kept-classes: where those are classes by words
 pub mod Rests
 pub mod Rows
 pub mod Kids

@@ -1,3 +1,3 @@
--- Classes of states with the same words, and the rounds that find them.
+-- Classes of twins and of states with the same words, and the rounds that find them.
 pub mod Classes
 pub mod Rounds

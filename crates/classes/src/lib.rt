@@ -1,5 +1,6 @@
-// Which states of an opened table have the same words: classes by rounds. All states begin in one class. A round leaves
-// two states of a class together if their rows match up to the classes; the rounds end when one parts no class.
+// Which states of an opened table are twins, so that in an earliest one they have the same words: classes by rounds.
+// All states begin in one class. A round leaves two states of a class together if their rows match up to the classes;
+// the rounds end when one parts no class.
 // The first round compares words. States that it leaves together have the same, so later rounds compare children alone.
 // Nothing is asked of the lent bytes: reads are clamped, an index of another size than an opened table's is left alone,
 // and each contract speaks of every table that the bytes mean.
@@ -9,9 +10,8 @@ ghost use Prim.Native.Nat.{ℕ, _<_, _≤_};
 ghost use lib.ListN.{length, getD};
 ghost use Rattle.words.specs.Told.{Told};
 ghost use Rattle.machine.specs.Machine.{Table};
-ghost use Rattle.machine.specs.Earliest.{Earliest};
 ghost use Rattle.layout.specs.Layout.{Opened};
-ghost use Rattle.classes.specs.Classes.{Classes, Numbered};
+ghost use Rattle.classes.specs.Classes.{TwinClasses, Numbered};
 ghost use Rattle.classes.specs.Rounds.{Meant, Alike, Shaped, Shapes, Sized, Leads, Picked, Low, Raised, Rounded, Put, Adopted};
 
 mod children;
@@ -140,7 +140,7 @@ fn at_most(x: usize) -> usize
 fn rounds(frames: &[u8], index: &[u64], symbols: usize, n: usize, rep: &mut [u8])
     requires { ⌜ Sized symbols (now index) (now rep) × (n ≤ 64) × ((q : ℕ) → getD (now rep) q 0 ≡ 0) ⌝ }
     ensures { λ _. ⌜ Numbered (now (rep .exit)) ⌝ }
-    ensures { λ _. ⌜ ((M : Table) → Meant (now (frames .entry)) (now (index .entry)) symbols M → n ≡ M .states → Earliest M → Classes M (now (rep .exit))) ⌝ }
+    ensures { λ _. ⌜ ((M : Table) → Meant (now (frames .entry)) (now (index .entry)) symbols M → n ≡ M .states → TwinClasses M (now (rep .exit))) ⌝ }
 {
     let mut next = [0u8; 64];
     let mut first = true;
@@ -154,11 +154,12 @@ fn rounds(frames: &[u8], index: &[u64], symbols: usize, n: usize, rep: &mut [u8]
     }
 }
 
-// Puts the states of an opened earliest table into classes: states have one number exactly when they have the same words.
+// Puts the states of an opened table into classes: states have one number, the least of them, exactly when they are twins.
 pub fn part(frames: &[u8], index: &[u64], symbols: usize, states: usize, rep: &mut [u8])
     requires { ⌜ length (now rep) ≡ 64 ⌝ }
     ensures { λ _. ⌜ Numbered (now (rep .exit)) ⌝ }
-    ensures { λ _. ⌜ ((M : Table) → Opened (now (frames .entry)) (now (index .entry)) M → symbols ≡ length (M .arities) → states ≡ M .states → Earliest M → Classes M (now (rep .exit))) ⌝ }
+    ensures { λ _. ⌜ ((M : Table) → Opened (now (frames .entry)) (now (index .entry)) M → symbols ≡ length (M .arities) → states ≡ M .states
+        → TwinClasses M (now (rep .exit))) ⌝ }
 {
     clear(rep);
     if index.len() != layout::ENTRIES {

@@ -15,7 +15,8 @@ use Rattle.layout.specs.Layout.{Opened}
 use Rattle.layout.specs.Leaves.{headOf}
 use Rattle.layout.specs.declared.Head.{Head}
 use Rattle.layout.specs.declared.Refusal.{Refusal}
-use Rattle.classes.specs.Classes.{Classes}
+use Rattle.classes.specs.Classes.{Classes, TwinClasses}
+use Rattle.classes.proofs.Settled.{twin-classes}
 use Rattle.canon.specs.Visiting.{byRep}
 use Rattle.canon.specs.Promises.{StatesNumbered, FormLong, FormWritten}
 use Rattle.former.specs.declared.Formed.{Formed}
@@ -76,9 +77,9 @@ fits-into {M} R R′ same l s r D e h w es er =
       symbols = λ m t d. sym (form-symbols l s m t (sym er ∙ d)) ∙ es;
     }
 
--- The states of every earliest table that the bytes and entries mean are in classes.
+-- The states of every table that the bytes and entries mean are in classes of twins.
 abbrev pub Parted : (F I : List ℕ) (symbols states : ℕ) (rep : List ℕ) → Type 0
-Parted F I symbols states rep = (M : Table) → Opened F I M → symbols ≡ length (M .arities) → states ≡ M .states → Earliest M → Classes M rep
+Parted F I symbols states rep = (M : Table) → Opened F I M → symbols ≡ length (M .arities) → states ≡ M .states → TwinClasses M rep
 
 -- What is known of an opened earliest table when its form was measured.
 pub record Measured (F I : List ℕ) (head : Head) (M : Table) (rep O N : List ℕ) (n l : ℕ) : Type 0 where
@@ -94,7 +95,7 @@ measured-decides : {F I : List ℕ} {head : Head} {M : Table} {rep O N : List �
 measured-decides {F} {I} {head} {M} h =
     let symbols = ap (λ (x : Head). x .symbols) (h .is) in
     let states = ap (λ (x : Head). x .states) (h .is) in
-    classes-decide (h .parted M (h .opened) symbols states (h .earliest))
+    classes-decide (twin-classes (h .opened .limited .made) (h .earliest) (h .parted M (h .opened) symbols states))
 
 -- The length that was measured is that of the form's text.
 measured-long : {F I : List ℕ} {head : Head} {M : Table} {rep O N : List ℕ} {n l : ℕ} → Measured F I head M rep O N n l

@@ -14,8 +14,9 @@ same-length c = search needs
 
 returns : tie.Need-returns
 returns c =
-    let zero = c .before .before .before .clear .ensures in
-    (numbered (c .before .before .before .clear .last .0) (c .before .before .before .clear .kept .0 ∙ c .before .before .before .before .before .before .before .before .pre) (λ q. omega (arith, zero q)), λ M o x y E. absurd (c .if1 .taken (o .entries)))
+    let z = c .before .before .before .clear in
+    let long = z .kept .0 ∙ c .before .before .before .before .before .before .before .before .pre in
+    (numbered (z .last .0) long (λ q. omega (arith, z .ensures q)), λ M o x y. absurd (c .if1 .taken (o .entries)))
 
 at-most-requires : tie.Need-at-most-requires
 at-most-requires c κs = search needs
@@ -33,8 +34,11 @@ returns-2 : tie.Need-returns-2
 returns-2 c =
     let h = c .before .before .rounds .ensures in
     let a = c .before .before .before .before .before .at-most .ensures in
-    let b = c .before .before .before .before .at-most2 .ensures in
-    (h .0, λ M o x y E. h .1 M (record { opened = o; counted = a .1 (omega (arith, o .limited .symbols)) ∙ x }) (b .1 (omega (arith, o .limited .states)) ∙ y) E)
+    let b = c .before .before .before .before .at-most2 .ensures in (
+      h .0,
+      λ M o x y.
+          h .1 M (record { opened = o; counted = a .1 (omega (arith, o .limited .symbols)) ∙ x }) (b .1 (omega (arith, o .limited .states)) ∙ y),
+    )
 
 pub part-spec : {M : Type 1} → statement M
 part-spec =
