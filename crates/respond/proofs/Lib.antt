@@ -1,2 +1,3 @@
 -- What an answer's line says, and trees that are too long for their bytes.
 mod Laws
+mod Pieces

@@ -1,2 +1,3 @@
 -- The line that answers a line of hexadecimal.
 pub mod Response
+pub mod Piece

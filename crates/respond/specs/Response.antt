@@ -6,6 +6,7 @@ use Prim.Native.Nat.{ℕ}
 use Rattle.words.specs.Word.{Word, terms}
 use Rattle.words.specs.Reply.{Reply, given, refused, _then_}
 use Rattle.machine.specs.Machine.{Table}
+use Rattle.text.specs.Lines.{bytesOf}
 use Rattle.promises.specs.Word.{wordInto}
 use Rattle.output.specs.Queue.{Queued}
 use Rattle.answers.specs.Lines.{wordLine, noLine}
@@ -39,3 +40,7 @@ pub record Strange (O : List ℕ) (used : ℕ) (O′ : List ℕ) (r : Said) : Ty
 abbrev pub Answered : Reply Table → Option (List ℕ) → ℕ → List ℕ → ℕ → List ℕ → Said → Type 0
 Answered t none room O used O′ r = Strange O used O′ r
 Answered t (some bs) room O used O′ r = Responds (t then λ M. wordInto M bs room) O used O′ r
+
+-- The line that answers a line of these characters.
+unfoldable pub lineAnswer : Reply Table → ℕ → List ℕ → List ℕ
+lineAnswer t room cs = elim (bytesOf cs) [ none ↦ notHex | some bs ↦ answerLine (t then λ M. wordInto M bs room) ]

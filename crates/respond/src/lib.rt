@@ -1,9 +1,14 @@
-// The line that answers a line of hexadecimal: the word of its tree under an opened table, a refusal,
-// or that it is not hexadecimal.
+// The lines that answer lines of hexadecimal: the word of a line's tree under an opened table, a
+// refusal, or that the line is not hexadecimal.
+mod piece;
+
 use finder::Found;
 use hexline::SoFar;
 use layout::Head;
 use layout::Refusal;
+pub use piece::Rest;
+pub use piece::answer;
+pub use piece::take;
 use table::Opening;
 ghost use mathlib.Core.Path.{_≡_};
 ghost use mathlib.Core.List.{List};

@@ -9,75 +9,11 @@ use table::Opening;
 ghost use mathlib.Core.Path.{_≡_};
 ghost use lib.ListN.{length};
 
-// The line so far, and how many bytes wait to be written.
-struct Answered {
-    line: SoFar,
-    used: usize,
-}
-
 // The line so far, whether there may be more to read, and who looks on.
 struct State {
     line: SoFar,
     more: bool,
     watch: Watch,
-}
-
-// Answers a whole line and counts the answer; answers how many bytes wait to be written then.
-fn answer(
-    line: SoFar,
-    opening: Opening,
-    frames: &[u8; 16448],
-    index: &[u64; 4096],
-    tree: &[u8],
-    plan: &mut [u32; 32768],
-    room: &mut [u8],
-    out: &mut [u8],
-    counts: &mut [u64],
-    used: usize,
-) -> usize {
-    let said = respond::to_line(line, opening, frames, index, tree, plan, room, out, used);
-    answers::raise(counts, said.counted);
-    said.used
-}
-
-// Takes a piece of the input: each line that ends in it is answered.
-fn take(
-    line: SoFar,
-    piece: &[u8],
-    opening: Opening,
-    frames: &[u8; 16448],
-    index: &[u64; 4096],
-    tree: &mut [u8],
-    plan: &mut [u32; 32768],
-    room: &mut [u8],
-    out: &mut [u8],
-    counts: &mut [u64],
-) -> Answered {
-    let mut line = line;
-    let mut used = 0;
-    let mut at = 0;
-    while at < piece.len() {
-        let fed = hexline::feed_all(line, &piece[at..], tree);
-        line = fed.line;
-        at += fed.taken;
-        if at < piece.len() {
-            at += 1;
-            used = answer(
-                line,
-                opening,
-                frames,
-                index,
-                tree,
-                plan,
-                room,
-                out,
-                counts,
-                used,
-            );
-            line = hexline::start();
-        }
-    }
-    Answered { line, used }
 }
 
 // Nothing more is read.
@@ -104,7 +40,7 @@ fn take_and_write(
     out: &mut [u8],
     counts: &mut [u64],
 ) -> State {
-    let answered = take(
+    let rest = respond::take(
         line,
         piece,
         opening,
@@ -116,11 +52,11 @@ fn take_and_write(
         out,
         counts,
     );
-    if output::flush(out, answered.used) != 0 {
+    if output::flush(out, rest.used) != 0 {
         return ended(hexline::start(), watch);
     }
     let watch = report::step(watch, counts);
-    let line = answered.line;
+    let line = rest.line;
     State {
         line,
         more: true,
@@ -220,7 +156,7 @@ fn answer_last(
     if !line.any {
         return;
     }
-    let used = answer(
+    let used = respond::answer(
         line,
         opening,
         frames,
