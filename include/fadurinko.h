@@ -103,9 +103,10 @@ uint8_t fadurinko_form(const uint8_t *text, size_t text_length, uint8_t *room, s
 uint8_t fadurinko_compare(const uint8_t *first, size_t first_length, const uint8_t *second,
                           size_t second_length, size_t *same, size_t *table, size_t *place);
 /* The arrays have FADURINKO_FRAMES, FADURINKO_ENTRIES, FADURINKO_HEAD and FADURINKO_PLAN entries.
- * What the last two calls answer means something only for arrays that fadurinko_open wrote; with
- * others they come to an end too and do no harm outside the room. What stands in the plan before a
- * call makes no difference. */
+ * What the last two calls answer means something only for arrays that fadurinko_open wrote. Whatever
+ * stands in them, the calls read and write only what is lent, and their work is linear in the tree,
+ * the rules and the room (milliseconds); the room's bytes are then left open. What stands in the plan
+ * before a call makes no difference. */
 uint8_t fadurinko_open(const uint8_t *text, size_t text_length, uint8_t *frames, uint64_t *index,
                        size_t *head, size_t *place);
 uint8_t fadurinko_find(const uint8_t *frames, const uint64_t *index, const size_t *head,

@@ -1,16 +1,20 @@
 //! `cases SEED COUNT` compares the exported calls with the second program on COUNT table texts, COUNT
 //! trees and COUNT pairs of texts: numbers, places, counts, every byte of the room and the bytes on
-//! both sides of it. Exit status 1 if anything differs.
+//! both sides of it. Up to 4,000 tables are damaged or made up besides: the calls on them must come to
+//! an end in time and write only where they may. Exit status 1 if anything differs.
 
+mod damaged;
 mod opened;
 mod report;
 mod room;
 mod tables;
 mod trees;
+mod watch;
 
 use std::process::ExitCode;
 use std::time::{Duration, Instant};
 
+use damaged::Damaged;
 use report::Report;
 use room::Rooms;
 use tables::Tables;
@@ -24,11 +28,14 @@ fn main() -> ExitCode {
         eprintln!("{USAGE}");
         return ExitCode::from(2);
     };
-    let (Ok(seed), Ok(count)) = (seed.parse(), count.parse()) else {
+    let (Ok(seed), Ok(count)) = (seed.parse(), count.parse::<usize>()) else {
         eprintln!("{USAGE}");
         return ExitCode::from(2);
     };
-    println!("seed {seed}: {count} texts, {count} trees, {count} pairs of texts");
+    println!(
+        "seed {seed}: {count} texts, {count} trees, {count} pairs of texts, {} damaged tables",
+        count.min(damaged::MOST)
+    );
     let report = run(seed, count);
     print!("{}", report.shown());
     if report.differences() == 0 {
@@ -43,6 +50,14 @@ fn run(seed: u64, count: usize) -> Report {
     let mut rooms = Rooms::new(seed);
     let mut tables = Tables::new(seed);
     let mut trees = Trees::new(seed);
+    let mut damaged = Damaged::new(seed);
+    for index in 0..count.min(damaged::MOST) {
+        damaged.next(index, &mut rooms, &mut report);
+    }
+    println!(
+        "damaged tables: the slowest call took {:?}",
+        damaged.slowest()
+    );
     let mut progress = Progress::new(count);
     for index in 0..count {
         tables.text(index, &mut rooms, &mut report);

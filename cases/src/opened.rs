@@ -5,17 +5,40 @@ use fadurinko::limit::{ENTRIES, FRAMES, HEAD, PLAN};
 use fadurinko_second::rng::Rng;
 
 #[derive(Clone, PartialEq)]
-struct Arrays {
-    frames: Box<[u8; FRAMES]>,
-    index: Box<[u64; ENTRIES]>,
-    head: [usize; HEAD],
+pub struct Arrays {
+    pub frames: Box<[u8; FRAMES]>,
+    pub index: Box<[u64; ENTRIES]>,
+    pub head: [usize; HEAD],
 }
 
 impl Arrays {
-    fn copy_from(&mut self, other: &Arrays) {
+    pub fn copy_from(&mut self, other: &Arrays) {
         *self.frames = *other.frames;
         *self.index = *other.index;
         self.head = other.head;
+    }
+
+    /// The number and the place.
+    pub fn judge(&self) -> (u8, usize) {
+        let mut place = usize::MAX;
+        let number = lent::judge_opened(&self.frames, &self.index, &self.head, &mut place);
+        (number, place)
+    }
+
+    /// The number, and the length or place with the terms.
+    pub fn find(&self, tree: &[u8], plan: &mut [u32; PLAN], room: &mut [u8]) -> (u8, [usize; 2]) {
+        let (mut count, mut terms) = (usize::MAX, usize::MAX);
+        let number = lent::find(
+            &self.frames,
+            &self.index,
+            &self.head,
+            tree,
+            plan,
+            room,
+            &mut count,
+            &mut terms,
+        );
+        (number, [count, terms])
     }
 }
 
@@ -71,35 +94,11 @@ impl Opened {
     }
 
     pub fn judge(&self) -> (u8, usize) {
-        let mut place = usize::MAX;
-        let Arrays {
-            frames,
-            index,
-            head,
-        } = &self.arrays;
-        let number = lent::judge_opened(frames, index, head, &mut place);
-        (number, place)
+        self.arrays.judge()
     }
 
-    /// The number, and the length or place with the terms.
     pub fn find(&mut self, tree: &[u8], room: &mut [u8]) -> (u8, [usize; 2]) {
-        let (mut count, mut terms) = (usize::MAX, usize::MAX);
-        let Arrays {
-            frames,
-            index,
-            head,
-        } = &self.arrays;
-        let number = lent::find(
-            frames,
-            index,
-            head,
-            tree,
-            &mut self.plan,
-            room,
-            &mut count,
-            &mut terms,
-        );
-        (number, [count, terms])
+        self.arrays.find(tree, &mut self.plan, room)
     }
 
     /// Whether finding words left the opened table alone.

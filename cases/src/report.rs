@@ -12,9 +12,12 @@ pub enum Call {
     Form,
     Compare,
     Open,
+    /// The calls on arrays that no `open` wrote.
+    FindDamaged,
+    JudgeDamaged,
 }
 
-const NAMES: [&str; 7] = [
+const NAMES: [&str; 9] = [
     "word",
     "find",
     "judge",
@@ -22,6 +25,8 @@ const NAMES: [&str; 7] = [
     "form",
     "compare",
     "open",
+    "find by damaged arrays",
+    "judge_opened of damaged arrays",
 ];
 
 const SHOWN: usize = 10;
@@ -87,18 +92,45 @@ impl Report {
         bytes: Result<(), &str>,
         case: impl FnOnce() -> String,
     ) {
-        self.counts[call as usize].answers[usize::from(mine.0)] += 1;
+        self.answered(call, mine.0);
         if mine == theirs && bytes.is_ok() {
             return;
         }
-        self.differences += 1;
-        if self.first.len() < SHOWN {
-            let wrong = bytes.err().unwrap_or("the bytes agree");
-            self.first.push(format!(
+        let wrong = bytes.err().unwrap_or("the bytes agree");
+        self.differs(|| {
+            format!(
                 "{} differs, {}: answered {mine:?}, the second program {theirs:?}; {wrong}",
                 NAMES[call as usize],
                 case()
-            ));
+            )
+        });
+    }
+
+    /// One call that is compared with nothing: its number, and what is wrong.
+    pub fn alone(
+        &mut self,
+        call: Call,
+        number: u8,
+        wrong: Result<(), &str>,
+        case: impl FnOnce() -> String,
+    ) {
+        self.answered(call, number);
+        if let Err(wrong) = wrong {
+            self.differs(|| {
+                let name = NAMES[call as usize];
+                format!("{name}, {}: answered {number}; {wrong}", case())
+            });
+        }
+    }
+
+    fn answered(&mut self, call: Call, number: u8) {
+        self.counts[call as usize].answers[usize::from(number)] += 1;
+    }
+
+    fn differs(&mut self, told: impl FnOnce() -> String) {
+        self.differences += 1;
+        if self.first.len() < SHOWN {
+            self.first.push(told());
         }
     }
 
@@ -140,9 +172,13 @@ mod tests {
         report.call(Call::Word, (12, [3, 0]), (9, [3, 0]), Ok(()), name);
         report.call(Call::Form, (0, 3), (0, 3), Err("bytes"), name);
         assert_eq!(report.differences(), 3);
+        report.alone(Call::FindDamaged, 0, Ok(()), name);
+        assert_eq!(report.differences(), 3);
+        report.alone(Call::FindDamaged, 20, Err("bytes"), name);
+        assert_eq!(report.differences(), 4);
         assert!(report
             .shown()
             .contains("word: 0 cases, 3 calls (yes 2, no 12: 1)"));
-        assert!(report.shown().ends_with("4 calls, 3 differences\n"));
+        assert!(report.shown().ends_with("6 calls, 4 differences\n"));
     }
 }

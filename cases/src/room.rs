@@ -74,6 +74,25 @@ impl Rooms {
         &mut self.bytes[start..start + length]
     }
 
+    /// Whether every byte outside the room last lent is as it was.
+    pub fn holds_outside(&self) -> Result<(), &'static str> {
+        let Lent {
+            start,
+            length,
+            pattern,
+        } = self.lent;
+        let old = &self.pattern[pattern..];
+        let end = start + length;
+        let all = end + GUARD;
+        if self.bytes[..start] != old[..start] {
+            Err("bytes before the room changed")
+        } else if self.bytes[end..all] != old[end..all] {
+            Err("bytes behind the room changed")
+        } else {
+            Ok(())
+        }
+    }
+
     /// Whether the room last lent has this output in front and every other byte is as it was.
     pub fn holds(&self, output: &[u8]) -> Result<(), &'static str> {
         let Lent {
@@ -83,12 +102,8 @@ impl Rooms {
         } = self.lent;
         let old = &self.pattern[pattern..];
         let (written, end) = (start + output.len(), start + length);
-        let all = end + GUARD;
-        if self.bytes[..start] != old[..start] {
-            Err("bytes before the room changed")
-        } else if self.bytes[end..all] != old[end..all] {
-            Err("bytes behind the room changed")
-        } else if written > end || self.bytes[start..written] != *output {
+        self.holds_outside()?;
+        if written > end || self.bytes[start..written] != *output {
             Err("the output is another")
         } else if self.bytes[written..end] != old[written..end] {
             Err("bytes behind the output changed")
@@ -116,6 +131,7 @@ mod tests {
         }
         rooms.lend(2);
         assert!(rooms.holds(b"abc").is_err());
+        assert_eq!(rooms.holds_outside(), Ok(()));
     }
 
     #[test]

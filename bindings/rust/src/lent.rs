@@ -6,8 +6,9 @@
 //! in memory of its own.
 //!
 //! All of them are safe to call with any bytes: the proofs ask nothing of what is lent. What `find`
-//! and `judge_opened` answer means something only for arrays that `open` wrote; with others they come
-//! to an end too, and do no harm outside the room.
+//! and `judge_opened` answer means something only for arrays that `open` wrote. Whatever stands in
+//! them, the calls read and write only what is lent, and their work is linear in the tree, the rules
+//! and the room (milliseconds); the room's bytes are then left open.
 //!
 //! What is lent to be written overlaps with nothing else, since the references say so. This does
 //! not compile:

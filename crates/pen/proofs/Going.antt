@@ -11,8 +11,8 @@ use Rattle.machine.specs.Machine.{Tree, Table}
 use Rattle.trees.specs.Preorder.{preorder}
 use Rattle.layout.specs.Layout.{framesSize}
 use Rattle.layout.specs.Leaves.{behindAt}
-use Rattle.pen.specs.Penned.{Put, Due, Penned, Tidy}
-use Rattle.pen.proofs.Planned.{Stands, Rest, Next, no-levels, no-place, ruled, rest-next, rest-last}
+use Rattle.pen.specs.Penned.{Put, Due, Penned, Tidy, GoesOn, Onward}
+use Rattle.pen.proofs.Planned.{Stands, Rest, Next, no-levels, no-place, ruled, rest-next, rest-last, next-level, next-place}
 
 -- The answer r and the room R′ at the end are right for every planned tree with a word that n letters of room are enough for.
 abbrev pub Pens : List ℕ → List ℕ → ℕ → ℕ → ℕ → List ℕ → ℕ → Type 0
@@ -21,6 +21,13 @@ Pens F P levels at n R′ r = (M : Table) (q : ℕ) (t : Tree) (w : Word) → Du
 -- There is no planned tree with a word that n letters of room are enough for.
 abbrev pub Nothing : List ℕ → List ℕ → ℕ → ℕ → ℕ → Type 0
 Nothing F P levels at n = (M : Table) (q : ℕ) (t : Tree) (w : Word) → Due F P at levels n M q t w → ⊥
+
+-- Whoever stops at a place behind its own, within the plan, is tidy and has gone onward.
+pub stopped : {R R′ : List ℕ} {at end next : ℕ} → length R′ ≡ length R → end ≤ length R → next ≤ 32768 → at < next → Tidy R R′ (end * 65536 + next) × Onward at (end * 65536 + next)
+stopped long letters place behind = (
+  record { long = long; letters = omega (arith, letters, place); place = omega (arith, place) },
+  record { behind = λ h. omega (arith, place, behind); past = λ h. absurd (omega (arith, place, behind)) },
+)
 
 -- Before a word is put: acc stands at the front of the room, `end` letters of it; the word u that stands at `from` is next, and what the children behind it write makes w whole.
 pub record Held (F P R : List ℕ) (M : Table) (levels place : ℕ) (w : Word) (end next left from : ℕ) : Type 0 where
@@ -65,9 +72,12 @@ held-put {F = F} {from = from} h R₁ end₁ b l p =
     (omega (arith, a .0, s .byte), a .1 ∙ ap (λ (x : List ℕ). x ++ _) (h .front) ∙ ap (λ (x : List ℕ). h .acc ++ x) (s .word))
 
 module _ {F P : List ℕ} {levels at n : ℕ} {R : List ℕ} {end next left from : ℕ} (g : Going F P levels at n R end next left from) (long : length R ≡ n) where
-  -- No word stands past the end of the frames.
-  pub from-nothing : 16447 < from → Nothing F P levels at n
-  from-nothing z M q t w d = omega (arith, d .bytes, g .held M q t w d .stands .inside)
+  -- Where a child is left that cannot be called for, there is none.
+  pub stop-nothing : (left ≡ 0 → ⊥) → (GoesOn (levels - 1) next from → ⊥) → Nothing F P levels at n
+  stop-nothing kids z M q t w d =
+      let h = g .held M q t w d in
+      let c = rest-next (h .rest) (omega (arith, kids)) in
+      z (record { level = next-level c; place = omega (arith, next-place c, d .inside); byte = omega (arith, d .bytes, h .stands .inside) })
 
   -- With no child left the word is written.
   pub going-last : (R₁ : List ℕ) (end₁ : ℕ) → Put F from end R R₁ end₁ → left ≡ 0 → Pens F P levels at n R₁ (end₁ * 65536 + next)

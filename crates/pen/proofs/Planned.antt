@@ -158,3 +158,17 @@ module _ {F P : List ℕ} {M : Table} {levels place : ℕ} {v : Word} {next left
       go : (cs : List Child) (ts : Forest) → words M ts cs ≡ some v → length cs ≡ 0 → next + length (preorders ts) ≡ place → (v ≡ []) × (next ≡ place)
       go [] ts e k p = let a = words-nil M ts v e in let p′ = rw (a .0) at p in (a .1, omega arith)
       go (c ∷ cs) ts e k p = absurd (omega arith)
+
+-- A tree has a place of its own.
+own-place : (t : Tree) → 0 < length (preorder t)
+unfolding preorder
+own-place (node f ts) = omega arith
+
+module _ {F P : List ℕ} {M : Table} {levels place : ℕ} {v : Word} {next left pos : ℕ} (c : Next F P M levels place v next left pos) where
+  -- A level is left for the child that is next.
+  pub next-level : 0 < levels
+  next-level = let z : levels ≡ 0 → ⊥ = λ e. no-level (c .t) levels e (c .low) in omega (arith, z)
+
+  -- It stands before the end of the tree.
+  pub next-place : next < place
+  next-place = omega (arith, own-place (c .t), c .rest .passed)

@@ -2,7 +2,7 @@
 use mathlib.Core.Path.{_≡_}
 use mathlib.Core.List.{List, _++_}
 use mathlib.Core.Option.{some}
-use Prim.Native.Nat.{ℕ, _+_, _*_, _/_, _%_, _≤_}
+use Prim.Native.Nat.{ℕ, _+_, _*_, _/_, _%_, _<_, _≤_}
 use lib.ListN.{length, getD, take}
 use Rattle.words.specs.Word.{Word}
 use Rattle.machine.specs.Machine.{Tree, Table, word}
@@ -38,3 +38,14 @@ pub record Tidy (R R′ : List ℕ) (r : ℕ) : Type 0 where
   pub long : length R′ ≡ length R
   pub letters : r / 65536 ≤ length R
   pub place : r % 65536 ≤ 32768
+
+-- A child with its place at `next` and so many levels can be called for behind the word at `from`.
+pub record GoesOn (lower next from : ℕ) : Type 0 where
+  pub level : 0 < lower
+  pub place : next < 32768
+  pub byte : from < framesSize
+
+-- Whatever the bytes are: the place behind is behind its own, and past the plan's end nothing is written.
+pub record Onward (at r : ℕ) : Type 0 where
+  pub behind : at < 32768 → at < r % 65536
+  pub past : 32768 ≤ at → r ≡ 32768

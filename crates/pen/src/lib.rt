@@ -5,9 +5,10 @@ ghost use mathlib.Core.List.{List, _++_};
 ghost use Prim.Native.Nat.{ℕ, _+_, _*_, _<_, _≤_};
 ghost use lib.ListN.{length, take, drop};
 ghost use Rattle.words.specs.Word.{Word};
+ghost use Rattle.words.specs.Told.{Told};
 ghost use Rattle.machine.specs.Machine.{Tree, Table};
 ghost use Rattle.trees.specs.Preorder.{preorder};
-ghost use Rattle.pen.specs.Penned.{Put, Due, Penned, Tidy};
+ghost use Rattle.pen.specs.Penned.{Put, Due, Penned, Tidy, GoesOn, Onward};
 
 fn wide(x: u8) -> usize
     ensures { λ r. ⌜ (r ≡ x) × (r < 256) ⌝ }
@@ -99,9 +100,65 @@ fn put(frames: &[u8; 16448], from: usize, room: &mut [u8], at: usize) -> usize
     at + n
 }
 
+// Whether a child can be called for: a level is left for it, and its place and the word before it
+// lie in what is lent.
+fn goes_on(lower: usize, next: usize, from: usize) -> bool
+    ensures { λ r. ⌜ Told (GoesOn lower next from) r ⌝ }
+{
+    if lower == 0 {
+        return false;
+    }
+    if 32767 < next {
+        return false;
+    }
+    if 16447 < from {
+        return false;
+    }
+    true
+}
+
 // Writes the word of the planned tree at `at` to the front of the room, with so many levels
 // allowed. It calls itself for each child, with one level less, and lends it the room on from its
 // current end. The answer is the letters written, times 65,536, and the place behind the tree.
+// Where a child cannot be called for, it stops at what it has: the place answered is always behind
+// its own, so that no two calls are for one place of the plan.
+fn node(
+    levels: usize,
+    plan: &[u32; 32768],
+    frames: &[u8; 16448],
+    at: usize,
+    room: &mut [u8],
+) -> usize
+    requires { ⌜ (0 < levels) × (at < 32768) × (length (now room) ≤ 16777216) ⌝ }
+    ensures { λ r. ⌜ ((M : Table) (q : ℕ) (t : Tree) (w : Word) → Due (now (frames .entry)) (now (plan .entry)) at levels (length (now (room .entry))) M q t w
+        → Penned w at (length (preorder t)) (now (room .exit)) r) ⌝ }
+    ensures { λ r. ⌜ Tidy (now (room .entry)) (now (room .exit)) r ⌝ }
+    ensures { λ r. ⌜ Onward at r ⌝ }
+{
+    let lower = levels - 1;
+    let entry = narrow(plan[at]);
+    let mut from = entry % 16384;
+    let mut left = entry / 16384;
+    let mut end: usize = 0;
+    let mut next = at + 1;
+    loop {
+        end = put(frames, from, room, end);
+        if left == 0 {
+            return end * 65536 + next;
+        }
+        if !goes_on(lower, next, from) {
+            return end * 65536 + next;
+        }
+        from = from + 2 + wide(frames[from]);
+        let below = node(lower, plan, frames, next, &mut room[end..]);
+        next = below % 65536;
+        end = end + below / 65536;
+        left -= 1;
+    }
+}
+
+// Writes the word of the planned tree at `at`, as `node` does. Whatever the plan, the frames, the
+// place and the levels are, the place answered is behind its own, or the plan has ended.
 pub fn eval(
     levels: usize,
     plan: &[u32; 32768],
@@ -113,30 +170,13 @@ pub fn eval(
     ensures { λ r. ⌜ ((M : Table) (q : ℕ) (t : Tree) (w : Word) → Due (now (frames .entry)) (now (plan .entry)) at levels (length (now (room .entry))) M q t w
         → Penned w at (length (preorder t)) (now (room .exit)) r) ⌝ }
     ensures { λ r. ⌜ Tidy (now (room .entry)) (now (room .exit)) r ⌝ }
+    ensures { λ r. ⌜ Onward at r ⌝ }
 {
-    if levels == 0 {
-        return 0;
-    }
     if 32767 < at {
-        return 0;
+        return 32768;
     }
-    let entry = narrow(plan[at]);
-    let mut from = entry % 16384;
-    let mut left = entry / 16384;
-    let mut end: usize = 0;
-    let mut next = at + 1;
-    loop {
-        end = put(frames, from, room, end);
-        if left == 0 {
-            return end * 65536 + next;
-        }
-        if 16447 < from {
-            return 0;
-        }
-        from = from + 2 + wide(frames[from]);
-        let below = eval(levels - 1, plan, frames, next, &mut room[end..]);
-        next = below % 65536;
-        end = end + below / 65536;
-        left -= 1;
+    if levels == 0 {
+        return at + 1;
     }
+    node(levels, plan, frames, at, room)
 }

@@ -33,7 +33,7 @@ returns c =
     let begun = written .before .before .before .before in
     let a = begun .args in
     λ M q t w d many.
-    exactly-put d many (a .room .now) (written .eval .last .1 .1 .1 .1 .0) (a .from) (begun .pre .1) (written .eval .ensures .0) (written .eval .ensures .1)
+    exactly-put d many (a .room .now) (written .eval .last .1 .1 .1 .1 .0) (a .from) (begun .pre .1) (written .eval .ensures .0) (written .eval .ensures .1 .0)
 
 saved-requires : tie.Need-saved-requires
 saved-requires c κs = search needs
@@ -86,7 +86,7 @@ returns-2 c =
     (omega (arith, kept .before .before .if1 .left, begun .pre .1))
     (kept .saved .ensures)
     (written .eval2 .ensures .0)
-    (written .eval2 .ensures .1)
+    (written .eval2 .ensures .1 .0)
     (back .put .ensures .1)
 
 pub put-tree-spec : {M : Type 1} → statement M
