@@ -53,3 +53,11 @@ pub fn terms_of(word: &[u8]) -> usize
     }
     n + last(&word[at..]) as usize
 }
+
+// The number of terms of the word that stands first in a room, with so many letters.
+pub fn terms_in(room: &[u8], letters: usize) -> usize
+    requires { ⌜ letters ≤ length (now room) ⌝ }
+    ensures { λ r. ⌜ r ≡ terms (take letters (now (room .entry))) ⌝ }
+{
+    terms_of(&room[..letters])
+}
