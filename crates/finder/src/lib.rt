@@ -54,7 +54,6 @@ fn lacking(size: Size) -> usize
     match size {
         Size::Fits {
             letters: _,
-            gaps: _,
             next: _,
         } => 0,
         Size::Lacks(place) => place,
@@ -103,12 +102,7 @@ pub fn find(frames: &[u8], index: &[u64], head: Head, tree: &[u8], room: &mut [u
         return refuse(6, 0);
     }
     let size = walk::measure(64, frames, index, tree, 0, head.start);
-    let Size::Fits {
-        letters,
-        gaps: _,
-        next: _,
-    } = size
-    else {
+    let Size::Fits { letters, next: _ } = size else {
         return refuse(9, lacking(size));
     };
     write(frames, index, head, tree, letters, room)
