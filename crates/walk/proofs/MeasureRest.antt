@@ -88,5 +88,5 @@ pub bounded-lacks : (len at at′ : ℕ) (r : Size) (p : ℕ) → r ≡ Lacks p 
 bounded-lacks len at at′ r p e h = rw e (rw e at h)
 
 -- The bounds of a place that was found.
-pub tame-found : (r : Lookup) (p : Place) → r ≡ Found p → Tame r → (p .at < 16384) × (p .kids < 8) × (p .letters < 256) × (p .spaces < 256)
+pub tame-found : (r : Lookup) (p : Place) → r ≡ Found p → Tame r → (p .at < 16384) × (p .kids < 8) × (p .letters < 256)
 tame-found r p e h = rw e at h
