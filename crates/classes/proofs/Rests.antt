@@ -7,13 +7,12 @@ use Prim.Native.Nat.{ℕ, zero, suc, _+_, _-_, _<_}
 use native.Mathlib.Numerals.{sub-one}
 use native.Mathlib.Omega.{arith}
 use lib.ListN.{length, getD, drop}
-use Rattle.words.specs.Word.{spaces}
 use Rattle.words.specs.Told.{Told}
 use Rattle.words.proofs.Told.{told-map}
 use Rattle.machine.specs.Machine.{Child, Rule}
 use Rattle.machine.specs.Twins.{Rests}
 use Rattle.text.specs.Writing.{childrenText}
-use Rattle.layout.specs.Layout.{restLetters, restSpaces, ruleLetters, ruleSpaces}
+use Rattle.layout.specs.Layout.{restLetters, ruleLetters}
 use Rattle.layout.specs.Leaves.{wordAt, behindAt, PlaceOf}
 use Rattle.layout.specs.declared.Place.{Place}
 use Rattle.layout.proofs.Stretches.{first-word, first-behind, child-state, child-word, child-behind}
@@ -92,14 +91,6 @@ module _ (R : ℕ → ℕ → Type 0) where
   rests-letters (c ∷ cs) [] h = absurd h
   rests-letters (c ∷ cs) (d ∷ ds) h = ap₂ (λ (m n : ℕ). m + n) (ap length (h .1)) (rests-letters cs ds (h .2))
 
-  -- Rests that match write as many letters 20.
-  rests-spaces : (cs ds : List Child) → Rests R cs ds → restSpaces cs ≡ restSpaces ds
-  unfolding restSpaces
-  rests-spaces [] [] h = refl
-  rests-spaces [] (d ∷ ds) h = absurd h
-  rests-spaces (c ∷ cs) [] h = absurd h
-  rests-spaces (c ∷ cs) (d ∷ ds) h = ap₂ (λ (m n : ℕ). m + n) (ap spaces (h .1)) (rests-spaces cs ds (h .2))
-
 module _ (F rep : List ℕ) (p s : Place) where
   -- No two rules that stand there are the same.
   abbrev Apart : Type 0
@@ -114,12 +105,6 @@ module _ (F rep : List ℕ) (p s : Place) where
   -- Rules with other numbers of children are not the same.
   pub kids-apart : (p .kids ≡ s .kids → ⊥) → Apart
   kids-apart ne a b k l h = ne (k .kids ∙ rests-length (Alike rep) (a .rest) (b .rest) (h .1) ∙ sym (l .kids))
-
-  -- Rules with other numbers of letters 20 are not the same.
-  pub spaces-apart : (p .spaces ≡ s .spaces → ⊥) → Apart
-  unfolding ruleSpaces
-  spaces-apart ne a b k l h =
-      ne (k .spaces ∙ ap₂ (λ (m n : ℕ). m + n) (ap spaces (h .0)) (rests-spaces (Alike rep) (a .rest) (b .rest) (h .1)) ∙ sym (l .spaces))
 
   -- Rules with another first word are not the same.
   pub words-apart : (wordAt F (p .at) ≡ wordAt F (s .at) → ⊥) → Apart

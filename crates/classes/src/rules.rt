@@ -75,9 +75,6 @@ fn same_rule(frames: &[u8], rep: &[u8], p: Place, s: Place) -> bool
     if p.kids != s.kids {
         return false;
     }
-    if p.spaces != s.spaces {
-        return false;
-    }
     let at = p.at;
     let other = s.at;
     if !same_word(frames, at, other) {

@@ -5,7 +5,7 @@ use Prim.Native.Nat.{ℕ, _+_, _<_, _≤_}
 use native.Mathlib.Omega.{arith}
 use lib.ListN.{length}
 use lib.Seq.{slice}
-use Rattle.words.specs.Word.{Word, spaces}
+use Rattle.words.specs.Word.{Word}
 use Rattle.machine.specs.Machine.{Child}
 use Rattle.text.specs.Fields.{Parsed, got, fault, below, text}
 use Rattle.text.proofs.Fields.{then-inv, below-inv}
@@ -56,29 +56,28 @@ pub child-fault : (F : List ℕ) (at end k n : ℕ) (o : Parsed Child) → o ≡
 child-fault F at end k n o e f = rw e f
 
 -- A child that is read.
-pub child-got : (F : List ℕ) (at end states q u n then s : ℕ) → IsNumber F at end q u (below states (slice at end F)) → IsWord F u end n then (text (slice u end F)) → s ≡ spaces (slice (u + 1) then F)
-    → ChildRead F at end (oneChild states (slice at end F)) (one.Got q then n s)
-child-got F at end states q u n then s i w e =
+pub child-got : (F : List ℕ) (at end states q u n then : ℕ) → IsNumber F at end q u (below states (slice at end F)) → IsWord F u end n then (text (slice u end F))
+    → ChildRead F at end (oneChild states (slice at end F)) (one.Got q then n)
+child-got F at end states q u n then i w =
     rw (child-read states (slice at end F) q (slice u end F) (slice (u + 1) then F) (slice then end F) (i .read) (w .read))
-    (record { state = refl; left = refl; next = omega (arith, i .next, w .next); inside = w .inside; letters = w .long; gaps = e; short = w .short })
+    (record { state = refl; left = refl; next = omega (arith, i .next, w .next); inside = w .inside; letters = w .long; short = w .short })
 
 -- A child is read, and the bytes from `then` on are left.
-pub record IsChild (F : List ℕ) (at end q then n s : ℕ) (o : Parsed Child) : Type 0 where
+pub record IsChild (F : List ℕ) (at end q then n : ℕ) (o : Parsed Child) : Type 0 where
   pub child : Child
   pub read : o ≡ got child (slice then end F)
   pub state : q ≡ child .state
   pub letters : n ≡ length (child .after)
-  pub gaps : s ≡ spaces (child .after)
   pub short : n ≤ 32
   pub next : at + 2 ≤ then
   pub inside : then ≤ end
 
 -- An answer with a state says that the child is read.
-pub got-child : (F : List ℕ) (at end q then n s : ℕ) (o : Parsed Child) (r : OneChild) → r ≡ one.Got q then n s → ChildRead F at end o r → IsChild F at end q then n s o
-got-child F at end q then n s (got c bs) r e h =
-    let w : ChildAt F bs c at end q then n s = rw e at h in
-    record { child = c; read = ap (got c) (w .left); state = w .state; letters = w .letters; gaps = w .gaps; short = w .short; next = w .next; inside = w .inside }
-got-child F at end q then n s (fault k) r e h = absurd (let z : ⊥ = rw e at h in z)
+pub got-child : (F : List ℕ) (at end q then n : ℕ) (o : Parsed Child) (r : OneChild) → r ≡ one.Got q then n → ChildRead F at end o r → IsChild F at end q then n o
+got-child F at end q then n (got c bs) r e h =
+    let w : ChildAt F bs c at end q then n = rw e at h in
+    record { child = c; read = ap (got c) (w .left); state = w .state; letters = w .letters; short = w .short; next = w .next; inside = w .inside }
+got-child F at end q then n (fault k) r e h = absurd (let z : ⊥ = rw e at h in z)
 
 -- An answer with a number of no says that it is refused.
 pub fault-child : (F : List ℕ) (at end k : ℕ) (o : Parsed Child) (r : OneChild) → r ≡ one.Fault k → ChildRead F at end o r → o ≡ fault k

@@ -2,7 +2,6 @@
 pub mod Slices
 pub mod Numbers
 pub mod Words
-pub mod Spaces
 pub mod Family
 pub mod Packed
 pub mod Siblings

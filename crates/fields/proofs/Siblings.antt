@@ -6,15 +6,13 @@ use native.Mathlib.Numerals.{sub-one}
 use native.Mathlib.Omega.{arith}
 use lib.ListN.{length, length-append}
 use lib.Seq.{slice, append-snoc}
-use Rattle.words.specs.Word.{spaces}
 use Rattle.machine.specs.Machine.{Child}
-use Rattle.layout.specs.Layout.{restLetters, restSpaces, firstState, laterStates}
+use Rattle.layout.specs.Layout.{restLetters, firstState, laterStates}
 use Rattle.text.specs.Fields.{Parsed, got, fault, Field, andThen, below, text, children}
 use Rattle.text.proofs.Fields.{then-inv}
 use Rattle.fields.specs.Read.{oneChild, Family, KidsRead, FirstAfter, RestAfter}
 use Rattle.fields.specs.declared.Kids.{Kids}
 use Rattle.fields.specs.declared.Kids.the-variants as kids
-use Rattle.words.proofs.Terms.{spaces-length}
 use Rattle.fields.proofs.Packed.{first-snoc, later-snoc, Room, room-none, room-more, packed-right}
 use Rattle.fields.proofs.Family.{IsChild, child-below}
 
@@ -68,38 +66,31 @@ unfolding children
 children-none states zero bs h = refl
 children-none states (suc k) bs h = absurd (omega arith)
 
--- The letters of the words behind one child more, and the letters 20 among them.
+-- The letters of the words behind one child more.
 letters-snoc : (cs : List Child) (c : Child) → restLetters (cs ++ c ∷ []) ≡ restLetters cs + length (c .after)
 unfolding restLetters
 letters-snoc [] c = omega arith
 letters-snoc (d ∷ cs) c = omega (arith, letters-snoc cs c)
 
-spaces-snoc : (cs : List Child) (c : Child) → restSpaces (cs ++ c ∷ []) ≡ restSpaces cs + spaces (c .after)
-unfolding restSpaces
-spaces-snoc [] c = omega arith
-spaces-snoc (d ∷ cs) c = omega (arith, spaces-snoc cs c)
-
 -- ---- all steps so far
 
 -- The children acc are read, and `left` children are to be read from `next` on.
-pub record Begun (F : List ℕ) (at end states count next letters gaps first rest left : ℕ) : Type 0 where
+pub record Begun (F : List ℕ) (at end states count next letters first rest left : ℕ) : Type 0 where
   pub acc : List Child
   pub number : length acc + left ≡ count
   pub from : at ≤ next
   pub inside : next ≤ end
   pub remains : children states count (slice at end F) ≡ front acc (children states left (slice next end F))
   pub all-letters : letters ≡ restLetters acc
-  pub all-gaps : gaps ≡ restSpaces acc
   pub few : letters ≤ 32 * length acc
-  pub gaps-few : gaps ≤ letters
   pub first-state : first ≡ firstState acc
   pub first-small : first < 64
   pub later-states : rest ≡ laterStates acc
   pub room : Room (length acc) rest
 
 -- Nothing is read yet.
-pub begin : (F : List ℕ) (at end states count : ℕ) → at ≤ end → Begun F at end states count at 0 0 0 0 count
-unfolding restLetters restSpaces firstState laterStates
+pub begin : (F : List ℕ) (at end states count : ℕ) → at ≤ end → Begun F at end states count at 0 0 0 count
+unfolding restLetters firstState laterStates
 begin F at end states count h = record {
   acc = [];
   number = omega arith;
@@ -107,24 +98,22 @@ begin F at end states count h = record {
   inside = h;
   remains = front-none _;
   all-letters = refl;
-  all-gaps = refl;
   few = omega arith;
-  gaps-few = omega arith;
   first-state = refl;
   first-small = omega arith;
   later-states = refl;
   room = room-none;
 }
 
-module _ {F : List ℕ} {at end states count next letters gaps first rest left : ℕ} (b : Begun F at end states count next letters gaps first rest left) where
+module _ {F : List ℕ} {at end states count next letters first rest left : ℕ} (b : Begun F at end states count next letters first rest left) where
   -- A child is refused.
   pub begun-fault : (k n : ℕ) → 0 < left → oneChild states (slice next end F) ≡ fault k → n ≡ k → KidsRead F at end (children states count (slice at end F)) (kids.Fault n)
   begun-fault k n h e f = rw (b .remains, children-fault states left (slice next end F) k h e) f
 
   -- A child is read.
-  pub begun-more : (q then n s v w : ℕ) → 0 < left → states ≤ 64 → IsChild F next end q then n s (oneChild states (slice next end F)) → FirstAfter (count - left) first q v → RestAfter (count - left) rest q w
-      → Begun F at end states count then (letters + n) (gaps + s) v w (left - 1)
-  begun-more q then n s v w h k i x y =
+  pub begun-more : (q then n v w : ℕ) → 0 < left → states ≤ 64 → IsChild F next end q then n (oneChild states (slice next end F)) → FirstAfter (count - left) first q v → RestAfter (count - left) rest q w
+      → Begun F at end states count then (letters + n) v w (left - 1)
+  begun-more q then n v w h k i x y =
       let c : Child = i .child in
       let l = length-append (b .acc) (c ∷ []) in
       let done : count - left ≡ length (b .acc) = omega (arith, b .number) in
@@ -136,9 +125,7 @@ module _ {F : List ℕ} {at end states count next letters gaps first rest left :
         inside = i .inside;
         remains = b .remains ∙ ap (front (b .acc)) (children-more states left (slice next end F) c (slice then end F) h (i .read)) ∙ front-snoc (b .acc) c (children states (left - 1) (slice then end F));
         all-letters = omega (arith, b .all-letters, i .letters, letters-snoc (b .acc) c);
-        all-gaps = omega (arith, b .all-gaps, i .gaps, spaces-snoc (b .acc) c);
         few = omega (arith, b .few, i .short, l);
-        gaps-few = omega (arith, b .gaps-few, i .gaps, i .letters, spaces-length (c .after));
         first-state = first-snoc (b .acc) c (count - left) first q v done (b .first-state) (i .state) x;
         first-small = x .small;
         later-states = later-snoc (b .acc) c (count - left) rest q w done (b .later-states) (i .state) y;
@@ -146,7 +133,7 @@ module _ {F : List ℕ} {at end states count next letters gaps first rest left :
       }
 
   -- All children are read.
-  pub begun-all : (x : ℕ) → left ≤ 0 → count ≤ 4 → x ≡ first * 4194304 + rest * 68719476736 + count * 18014398509481984 → x < 2 ^ 57 → KidsRead F at end (children states count (slice at end F)) (kids.Got next letters gaps x)
+  pub begun-all : (x : ℕ) → left ≤ 0 → count ≤ 4 → x ≡ first * 4194304 + rest * 68719476736 + count * 18014398509481984 → x < 2 ^ 57 → KidsRead F at end (children states count (slice at end F)) (kids.Got next letters x)
   begun-all x h k e m =
       let l : length (b .acc) ≡ count = omega (arith, b .number) in
       let r : children states count (slice at end F) ≡ got (b .acc) (slice next end F) = b .remains ∙ ap (front (b .acc)) (children-none states left (slice next end F) h) ∙ ap (λ x. got x (slice next end F)) (append-nil (b .acc)) in
@@ -155,27 +142,25 @@ module _ {F : List ℕ} {at end states count next letters gaps first rest left :
         from = b .from;
         inside = b .inside;
         letters = b .all-letters;
-        gaps = b .all-gaps;
         packed = packed-right (b .acc) first rest count x (b .first-state) (b .later-states) l e;
         few = omega (arith, b .few);
-        gaps-few = b .gaps-few;
         small = m;
       })
 
 -- ---- from the answer to what is read
 
 -- The children are read, and the bytes from `then` on are left.
-pub record IsFamily (F : List ℕ) (at end then n s x : ℕ) (o : Parsed (List Child)) : Type 0 where
+pub record IsFamily (F : List ℕ) (at end then n x : ℕ) (o : Parsed (List Child)) : Type 0 where
   pub read-children : List Child
   pub read : o ≡ got read-children (slice then end F)
-  pub family : Family F (slice then end F) read-children at end then n s x
+  pub family : Family F (slice then end F) read-children at end then n x
 
 -- An answer with a packed number says so.
-pub got-kids : (F : List ℕ) (at end then n s x : ℕ) (o : Parsed (List Child)) (r : Kids) → r ≡ kids.Got then n s x → KidsRead F at end o r → IsFamily F at end then n s x o
-got-kids F at end then n s x (got cs bs) r e h =
-    let f : Family F bs cs at end then n s x = rw e at h in
+pub got-kids : (F : List ℕ) (at end then n x : ℕ) (o : Parsed (List Child)) (r : Kids) → r ≡ kids.Got then n x → KidsRead F at end o r → IsFamily F at end then n x o
+got-kids F at end then n x (got cs bs) r e h =
+    let f : Family F bs cs at end then n x = rw e at h in
     record { read-children = cs; read = ap (got cs) (f .left); family = rw (f .left) at f }
-got-kids F at end then n s x (fault k) r e h = absurd (let z : ⊥ = rw e at h in z)
+got-kids F at end then n x (fault k) r e h = absurd (let z : ⊥ = rw e at h in z)
 
 -- An answer with a number of no says that they are refused.
 pub fault-kids : (F : List ℕ) (at end k : ℕ) (o : Parsed (List Child)) (r : Kids) → r ≡ kids.Fault k → KidsRead F at end o r → o ≡ fault k

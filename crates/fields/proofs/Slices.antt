@@ -1,7 +1,7 @@
 -- Laws of the bytes from one place to another.
 use mathlib.Core.Path.{_≡_}
 use mathlib.Core.List.{List, [], _∷_}
-use Prim.Native.Nat.{ℕ, zero, suc, _+_, _-_, _<_, _≤_}
+use Prim.Native.Nat.{ℕ, zero, suc, _+_, _<_, _≤_}
 use native.Mathlib.Nat.{zero-add}
 use native.Mathlib.Numerals.{add-one}
 use native.Mathlib.Omega.{arith}
@@ -28,12 +28,3 @@ slice-take (suc f) (suc t) n (x ∷ l) h =
 -- Those behind the first n begin n places on.
 pub slice-drop : (f t n : ℕ) (l : List ℕ) → drop n (slice f t l) ≡ slice (f + n) t l
 slice-drop f t n l = drop-drop n f (take t l)
-
--- So many bytes from a place on.
-pub slice-part : (f t : ℕ) (l : List ℕ) → f ≤ t → take (t - f) (drop f l) ≡ slice f t l
-slice-part zero t l h = let e : t - 0 ≡ t = omega arith in rw e
-slice-part (suc f) zero l h = absurd (omega arith)
-slice-part (suc f) (suc t) [] h = rw take-nil
-slice-part (suc f) (suc t) (x ∷ l) h =
-    let e : suc t - suc f ≡ t - f = omega arith in
-    rw e (slice-part f t l (omega arith))

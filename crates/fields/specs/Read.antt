@@ -4,11 +4,11 @@ use mathlib.Core.List.{List, [], _∷_}
 use Prim.Native.Nat.{ℕ, _+_, _*_, _^_, _≤_, _<_}
 use lib.ListN.{length}
 use lib.Seq.{slice}
-use Rattle.words.specs.Word.{Word, spaces}
+use Rattle.words.specs.Word.{Word}
 use Rattle.machine.specs.Machine.{Child}
 use Rattle.text.specs.Fields as text
 use Rattle.text.specs.Fields.{Parsed, got, fault, _>>=_, pure}
-use Rattle.layout.specs.Layout.{restLetters, restSpaces, kidsPacked}
+use Rattle.layout.specs.Layout.{restLetters, kidsPacked}
 use Rattle.fields.specs.declared.Field.{Field}
 use Rattle.fields.specs.declared.Field.the-variants as field
 use Rattle.fields.specs.declared.OneChild.{OneChild}
@@ -51,38 +51,35 @@ oneChild states = do
   u ← text.text
   pure (record { state = q; after = u })
 
--- A child's state, the letters and letters 20 of the word behind it, and where the next field stands.
-pub record ChildAt (F bs : List ℕ) (c : Child) (at end q then n s : ℕ) : Type 0 where
+-- A child's state, the letters of the word behind it, and where the next field stands.
+pub record ChildAt (F bs : List ℕ) (c : Child) (at end q then n : ℕ) : Type 0 where
   pub state : q ≡ c .state
   pub left : bs ≡ slice then end F
   pub next : at + 2 ≤ then
   pub inside : then ≤ end
   pub letters : n ≡ length (c .after)
-  pub gaps : s ≡ spaces (c .after)
   pub short : n ≤ 32
 
 abbrev pub ChildRead : List ℕ → ℕ → ℕ → Parsed Child → OneChild → Type 0
-ChildRead F at end (got c bs) (one.Got q then n s) = ChildAt F bs c at end q then n s
+ChildRead F at end (got c bs) (one.Got q then n) = ChildAt F bs c at end q then n
 ChildRead F at end (got c bs) (one.Fault n) = ⊥
-ChildRead F at end (fault k) (one.Got q then n s) = ⊥
+ChildRead F at end (fault k) (one.Got q then n) = ⊥
 ChildRead F at end (fault k) (one.Fault n) = n ≡ k
 
--- The children's fields: their letters, letters 20, and states and count in one number.
-pub record Family (F bs : List ℕ) (cs : List Child) (at end then n s x : ℕ) : Type 0 where
+-- The children's fields: their letters, and states and count in one number.
+pub record Family (F bs : List ℕ) (cs : List Child) (at end then n x : ℕ) : Type 0 where
   pub left : bs ≡ slice then end F
   pub from : at ≤ then
   pub inside : then ≤ end
   pub letters : n ≡ restLetters cs
-  pub gaps : s ≡ restSpaces cs
   pub packed : x ≡ kidsPacked cs
   pub few : n ≤ 128
-  pub gaps-few : s ≤ n
   pub small : x < 2 ^ 57
 
 abbrev pub KidsRead : List ℕ → ℕ → ℕ → Parsed (List Child) → Kids → Type 0
-KidsRead F at end (got cs bs) (kids.Got then n s x) = Family F bs cs at end then n s x
+KidsRead F at end (got cs bs) (kids.Got then n x) = Family F bs cs at end then n x
 KidsRead F at end (got cs bs) (kids.Fault n) = ⊥
-KidsRead F at end (fault k) (kids.Got then n s x) = ⊥
+KidsRead F at end (fault k) (kids.Got then n x) = ⊥
 KidsRead F at end (fault k) (kids.Fault n) = n ≡ k
 
 -- The number of a refused field or child, 0 for one that is not.
@@ -91,11 +88,11 @@ faultOf (field.Got value next) = 0
 faultOf (field.Fault n) = n
 
 abbrev pub childFaultOf : OneChild → ℕ
-childFaultOf (one.Got q then n s) = 0
+childFaultOf (one.Got q then n) = 0
 childFaultOf (one.Fault n) = n
 
 abbrev pub kidsFaultOf : Kids → ℕ
-kidsFaultOf (kids.Got then n s x) = 0
+kidsFaultOf (kids.Got then n x) = 0
 kidsFaultOf (kids.Fault n) = n
 
 -- One child more, behind `done` others: what the first child's state is then, and the states of the children behind it in one number.

@@ -4,7 +4,6 @@ ghost use mathlib.Core.Path.{_≡_};
 ghost use Prim.Native.Nat.{_+_, _*_, _^_, _<_, _≤_};
 ghost use lib.ListN.{length};
 ghost use lib.Seq.{slice};
-ghost use Rattle.words.specs.Word.{spaces};
 ghost use Rattle.text.specs.Fields as text;
 ghost use Rattle.fields.specs.Read.{NumberRead, WordRead, oneChild, ChildRead, KidsRead, faultOf, childFaultOf, kidsFaultOf, FirstAfter, RestAfter};
 
@@ -14,27 +13,25 @@ pub enum Field {
     Fault { number: u8 },
 }
 
-// A child's state, where the next field stands, the letters and letters 20 of the word behind it;
-// or a number of no.
+// A child's state, where the next field stands, the letters of the word behind it; or a number of
+// no.
 pub enum OneChild {
     Got {
         state: usize,
         next: usize,
         letters: usize,
-        gaps: usize,
     },
     Fault {
         number: u8,
     },
 }
 
-// What the children of a rule come to: where the next field stands, the letters and letters 20 of
-// the words behind them, their states and their count in one number; or a number of no.
+// What the children of a rule come to: where the next field stands, the letters of the words behind
+// them, their states and their count in one number; or a number of no.
 pub enum Kids {
     Got {
         next: usize,
         letters: usize,
-        gaps: usize,
         packed: u64,
     },
     Fault {
@@ -107,21 +104,6 @@ pub fn word(frames: &[u8], at: usize, end: usize) -> Field
     }
 }
 
-// How many letters of a word are letter 20.
-pub fn gaps_of(word: &[u8]) -> usize
-    ensures { λ r. ⌜ (r ≡ spaces (now (word .entry))) × (r ≤ length (now (word .entry))) ⌝ }
-{
-    let mut n: usize = 0;
-    let mut i = 0;
-    while i < word.len() {
-        if word[i] == 32 {
-            n += 1;
-        }
-        i += 1;
-    }
-    n
-}
-
 // The number of a field that is refused, 0 for one that is not.
 pub fn number_of(field: Field) -> u8
     ensures { λ r. ⌜ r ≡ faultOf field ⌝ }
@@ -161,7 +143,6 @@ fn child(frames: &[u8], at: usize, end: usize, states: usize) -> OneChild
         state,
         next,
         letters,
-        gaps: gaps_of(&frames[u + 1..next]),
     }
 }
 
@@ -197,7 +178,6 @@ pub fn children(frames: &[u8], at: usize, end: usize, states: usize, count: usiz
 {
     let mut next = at;
     let mut letters: usize = 0;
-    let mut gaps: usize = 0;
     let mut first: u64 = 0;
     let mut rest: u64 = 0;
     let mut left = count;
@@ -207,7 +187,6 @@ pub fn children(frames: &[u8], at: usize, end: usize, states: usize, count: usiz
             state,
             next: after,
             letters: more,
-            gaps: apart,
         } = got
         else {
             return Kids::Fault {
@@ -217,14 +196,12 @@ pub fn children(frames: &[u8], at: usize, end: usize, states: usize, count: usiz
         first = first_after(count - left, first, state as u64);
         rest = rest_after(count - left, rest, state as u64);
         letters += more;
-        gaps += apart;
         next = after;
         left -= 1;
     }
     Kids::Got {
         next,
         letters,
-        gaps,
         packed: packed_of(first, rest, count),
     }
 }
@@ -238,7 +215,6 @@ fn fault_number(child: OneChild) -> u8
             state: _,
             next: _,
             letters: _,
-            gaps: _,
         } => 0,
         OneChild::Fault { number } => number,
     }
@@ -252,7 +228,6 @@ pub fn kids_number(kids: Kids) -> u8
         Kids::Got {
             next: _,
             letters: _,
-            gaps: _,
             packed: _,
         } => 0,
         Kids::Fault { number } => number,

@@ -6,9 +6,8 @@ use Prim.Native.Nat.{ℕ, _+_, _-_, _<_, _≤_}
 use native.Mathlib.Omega.{arith}
 use borrow.Rule.Slice.PartMut.{putMid}
 use lib.ListN.{length, take, drop, length-append, length-take, length-drop}
-use Rattle.words.specs.Word.{Word, spaces}
+use Rattle.words.specs.Word.{Word, terms}
 use Rattle.words.specs.Reply.{given}
-use Rattle.words.proofs.Terms.{spaces-append}
 use Rattle.machine.specs.Machine.{Tree, Table, word}
 use Rattle.trees.specs.Preorder.{preorder}
 use Rattle.promises.specs.Room.{into}
@@ -23,17 +22,16 @@ use Rattle.finder.specs.Answer.{Answers}
 use Rattle.finder.proofs.Said.{short-said, word-said}
 use Rattle.finder.proofs.Filled.{three-filled}
 
--- u and v are the words of the initial rule, and w is the tree's word, of so many letters and letters 20.
-pub record Between (F I S : List ℕ) (head : Head) (letters gaps : ℕ) (u v : Word) (M : Table) (t : Tree) (w : Word) : Type 0 where
+-- u and v are the words of the initial rule, and w is the tree's word, of so many letters.
+pub record Between (F I S : List ℕ) (head : Head) (letters : ℕ) (u v : Word) (M : Table) (t : Tree) (w : Word) : Type 0 where
   pub stands : Stands F I S 0 64 M t
   pub is : head ≡ headOf M
   pub says : word M (M .start) t ≡ some w
   pub long : letters ≡ length w
-  pub apart : gaps ≡ spaces w
   pub first : u ≡ wordAt F (head .before)
   pub last : v ≡ wordAt F (head .after)
 
-module _ {F I S : List ℕ} {head : Head} {letters gaps : ℕ} {u v : Word} {M : Table} {t : Tree} {w : Word} (b : Between F I S head letters gaps u v M t w) where
+module _ {F I S : List ℕ} {head : Head} {letters : ℕ} {u v : Word} {M : Table} {t : Tree} {w : Word} (b : Between F I S head letters u v M t w) where
   -- u is the initial rule's first word.
   first-is : u ≡ M .before
   first-is = b .first ∙ ap (λ (h : Head). wordAt F (h .before)) (b .is) ∙ before-word (b .stands .opened)
@@ -50,10 +48,6 @@ module _ {F I S : List ℕ} {head : Head} {letters gaps : ℕ} {u v : Word} {M :
   output-long : length u + letters + length v ≡ length (u ++ w ++ v)
   output-long = simp length-append (omega (arith, b .long))
 
-  -- It has the letters 20 of the three.
-  output-gaps : spaces u + gaps + spaces v ≡ spaces (u ++ w ++ v)
-  output-gaps = simp spaces-append (omega (arith, b .apart))
-
   -- A room that is too short is refused with the length of the three.
   pub between-short : {r : Found} (R : List ℕ) → length R < length u + letters + length v
       → r ≡ found.Refused (record { number = 12; place = length u + letters + length v })
@@ -61,23 +55,21 @@ module _ {F I S : List ℕ} {head : Head} {letters gaps : ℕ} {u v : Word} {M :
   between-short R h e = rw (← output-is) (short-said R (u ++ w ++ v) (length u + letters + length v) output-long h e)
 
   -- A room that is long enough and has the three in front is answered with their letters and terms.
-  pub between-filled : {r : Found} (R R′ : List ℕ) (gu gv : ℕ) → length u + letters + length v ≤ length R → gu ≡ spaces u → gv ≡ spaces v
-      → r ≡ found.Word (record { length = length u + letters + length v; terms = gu + gaps + gv + 1 }) → R′ ≡ u ++ w ++ v ++ drop (length (u ++ w ++ v)) R
+  pub between-filled : {r : Found} (R R′ : List ℕ) (n : ℕ) → length u + letters + length v ≤ length R → n ≡ terms (take (length u + letters + length v) R′)
+      → r ≡ found.Word (record { length = length u + letters + length v; terms = n }) → R′ ≡ u ++ w ++ v ++ drop (length (u ++ w ++ v)) R
       → Answers (into (length R) (given (M .before ++ w ++ M .after))) R R′ r
-  between-filled R R′ gu gv h eu ev er e =
-      let g : gu + gaps + gv ≡ spaces (u ++ w ++ v) = omega (arith, output-gaps) in
-      rw (← output-is) (word-said R R′ (u ++ w ++ v) (length u + letters + length v) (gu + gaps + gv) output-long g h er e)
+  between-filled R R′ n h en er e = rw (← output-is) (word-said R R′ (u ++ w ++ v) (length u + letters + length v) n output-long en h er e)
 
   -- In a room that is long enough, u is put at its front, the tree's word written to the front of the part behind it, and v put behind that.
-  pub between-fits : {r : Found} {s : Step} (R R₁ R₂ ys : List ℕ) (from gu gv : ℕ) → length u + letters + length v ≤ length R → length R₁ ≡ length R
+  pub between-fits : {r : Found} {s : Step} (R R₁ R₂ ys : List ℕ) (from n : ℕ) → length u + letters + length v ≤ length R → length R₁ ≡ length R
       → R₁ ≡ take 0 R ++ u ++ drop (0 + length u) R → from ≡ 0 + length u
       → ((M : Table) (t : Tree) (w : Word) → Stands F I S 0 64 M t → word M (head .start) t ≡ some w → length w ≤ length (take (length R₁ - from) (drop from R₁))
       → Written w 0 (length (preorder t)) (take (length R₁ - from) (drop from R₁)) ys s)
       → (let P = putMid from (length R₁ - from) R₁ ys in R₂ ≡ take (from + letters) P ++ v ++ drop (from + letters + length v) P)
-      → gu ≡ spaces u → gv ≡ spaces v → r ≡ found.Word (record { length = length u + letters + length v; terms = gu + gaps + gv + 1 })
+      → n ≡ terms (take (length u + letters + length v) R₂) → r ≡ found.Word (record { length = length u + letters + length v; terms = n })
       → Answers (into (length R) (given (M .before ++ w ++ M .after))) R R₂ r
-  between-fits R R₁ R₂ ys from gu gv h k e₁ ef wrote e₂ eu ev er =
+  between-fits R R₁ R₂ ys from n h k e₁ ef wrote e₂ en er =
       let x : word M (head .start) t ≡ some w = ap (λ (h : Head). word M (h .start) t) (b .is) ∙ b .says in
       let l : length w ≤ length (take (length R₁ - from) (drop from R₁)) = simp (length-take, length-drop) (omega (arith, b .long)) in
       let y = wrote M t w (b .stands) x l .room in
-      between-filled R R₂ gu gv h eu ev er (three-filled R R₁ (putMid from (length R₁ - from) R₁ ys) R₂ ys u w v from e₁ ef y refl (rw (b .long) at e₂))
+      between-filled R R₂ n h en er (three-filled R R₁ (putMid from (length R₁ - from) R₁ ys) R₂ ys u w v from e₁ ef y refl (rw (b .long) at e₂))

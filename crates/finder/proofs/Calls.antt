@@ -4,7 +4,7 @@ use mathlib.Core.List.{List, _++_}
 use mathlib.Core.Option.{Option, none, some}
 use Prim.Native.Nat.{ℕ, _≤_}
 use lib.ListN.{length}
-use Rattle.words.specs.Word.{Word, spaces}
+use Rattle.words.specs.Word.{Word}
 use Rattle.words.specs.Reply.{Reply, given}
 use Rattle.machine.specs.Machine.{Tree, Table, word}
 use Rattle.trees.specs.Preorder.{preorder}
@@ -31,10 +31,10 @@ use Rattle.finder.proofs.Said.{refused-said}
 use Rattle.finder.proofs.Read.{ends-given, shape-no, into-no, read-stands, into-lacking, into-word}
 
 -- A measure that fits is that of a word.
-fits-some : (o : Option Word) (l : Option ℕ) (n letters gaps next : ℕ) → Measured 0 n o l (size.Fits letters gaps next)
-    → (w : Word) × (o ≡ some w) × (letters ≡ length w) × (gaps ≡ spaces w)
-fits-some none l n letters gaps next h = absurd h
-fits-some (some w) l n letters gaps next h = (w, refl, h .0, h .1)
+fits-some : (o : Option Word) (l : Option ℕ) (n letters next : ℕ) → Measured 0 n o l (size.Fits letters next)
+    → (w : Word) × (o ≡ some w) × (letters ≡ length w)
+fits-some none l n letters next h = absurd h
+fits-some (some w) l n letters next h = (w, refl, h .0)
 
 -- A measure that lacks a rule is that of no word, and the place is the first that lacks one.
 lacks-place : (o : Option Word) (l : Option ℕ) (n p : ℕ) → Measured 0 n o l (size.Lacks p) → (o ≡ none) × (l ≡ some p)
@@ -90,12 +90,12 @@ module _ {F I S : List ℕ} {head : Head} {M : Table} {s : Shape} (c : Shown F I
           (er ∙ ap (λ (x : Size). found.Refused (record { number = 9; place = lackingAt x })) ez)
 
       -- A tree that was measured is answered as its word is written.
-      pub word-answers : {r : Found} (R R′ : List ℕ) (letters gaps next : ℕ) → z ≡ size.Fits letters gaps next
-          → ((M : Table) (t : Tree) (w : Word) → Stands F I S 0 64 M t → head ≡ headOf M → word M (M .start) t ≡ some w → letters ≡ length w → gaps ≡ spaces w
+      pub word-answers : {r : Found} (R R′ : List ℕ) (letters next : ℕ) → z ≡ size.Fits letters next
+          → ((M : Table) (t : Tree) (w : Word) → Stands F I S 0 64 M t → head ≡ headOf M → word M (M .start) t ≡ some w → letters ≡ length w
           → Answers (into (length R) (given (M .before ++ w ++ M .after))) R R′ r)
           → Answers (wordInto M S (length R)) R R′ r
-      word-answers {r} R R′ letters gaps next ez wrote =
+      word-answers {r} R R′ letters next ez wrote =
           let t = shape-tree .0 in
-          let m = fits-some (word M (M .start) t) (lacks M (M .start) t 0) (length (preorder t)) letters gaps next (own-measure (size.Fits letters gaps next) ez) in
+          let m = fits-some (word M (M .start) t) (lacks M (M .start) t 0) (length (preorder t)) letters next (own-measure (size.Fits letters next) ez) in
           subst⁻¹ (λ (a : Reply Word). Answers a R R′ r) (into-word M S (length R) t (shape-tree .1) (m .0) (m .1))
-          (wrote M t (m .0) shape-stands (c .is) (m .1) (m .2) (m .3))
+          (wrote M t (m .0) shape-stands (c .is) (m .1) (m .2))

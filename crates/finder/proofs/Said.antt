@@ -1,12 +1,12 @@
 -- What each answer says of the room and of an answer of the definition. Assumes nothing.
-use mathlib.Core.Path.{_≡_, refl}
+use mathlib.Core.Path.{_≡_, refl, sym, ap, _∙_}
 use mathlib.Core.List.{List, _++_}
-use Prim.Native.Nat.{ℕ, _+_, _<_, _≤_}
+use Prim.Native.Nat.{ℕ, _<_, _≤_}
 use native.Mathlib.Omega.{arith}
-use native.Mathlib.Numerals.{add-one}
 use borrow.Author.Tests.{lt-ltb, le-ltb}
-use lib.ListN.{length, drop}
-use Rattle.words.specs.Word.{Word, spaces, terms}
+use lib.ListN.{length, take, drop}
+use lib.Seq.{take-at}
+use Rattle.words.specs.Word.{Word, terms}
 use Rattle.words.specs.Reply.{Reply, given, refused}
 use Rattle.promises.specs.Room.{into}
 use Rattle.finder.specs.declared.Found.{Found}
@@ -25,9 +25,9 @@ short-said R out n e h er =
     refused-said R 12 n (rw (lt-ltb (length R) (length out) i, e)) er
 
 -- In a room that is long enough the answer is the output's length and terms, and the output stands first in the room.
-pub word-said : {r : Found} (R R′ out : List ℕ) (n k : ℕ) → n ≡ length out → k ≡ spaces out → n ≤ length R → r ≡ found.Word (record { length = n; terms = k + 1 })
+pub word-said : {r : Found} (R R′ out : List ℕ) (n k : ℕ) → n ≡ length out → k ≡ terms (take n R′) → n ≤ length R → r ≡ found.Word (record { length = n; terms = k })
     → R′ ≡ out ++ drop (length out) R → Answers (into (length R) (given out)) R R′ r
-unfolding terms
 word-said R R′ out n k e s h er room =
     let i : length out ≤ length R = omega arith in
-    rw (le-ltb (length R) (length out) i, er) (record { answer = rw (e, s, add-one); room = room })
+    let front : take n R′ ≡ out = ap (take n) room ∙ take-at out (drop (length out) R) n (sym e) in
+    rw (le-ltb (length R) (length out) i, er) (record { answer = rw (s, front, e); room = room })

@@ -29,5 +29,5 @@ shapeRefusal (shape.Ends p) = found.Refused (record { number = 0; place = p })
 shapeRefusal (shape.Refused r) = found.Refused r
 
 abbrev pub lackingAt : Size → ℕ
-lackingAt (size.Fits letters gaps next) = 0
+lackingAt (size.Fits letters next) = 0
 lackingAt (size.Lacks p) = p

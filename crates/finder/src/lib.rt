@@ -9,7 +9,7 @@ ghost use mathlib.Core.List.{_++_};
 ghost use Prim.Native.Nat.{_≤_};
 ghost use lib.ListN.{length};
 ghost use mathlib.Core.Option.{some};
-ghost use Rattle.words.specs.Word.{Word, spaces};
+ghost use Rattle.words.specs.Word.{Word};
 ghost use Rattle.words.specs.Reply.{given};
 ghost use Rattle.machine.specs.Machine.{Tree, Table, word};
 ghost use Rattle.walk.specs.Walked.{Stands};
@@ -54,7 +54,6 @@ fn lacking(size: Size) -> usize
     match size {
         Size::Fits {
             letters: _,
-            gaps: _,
             next: _,
         } => 0,
         Size::Lacks(place) => place,
@@ -69,12 +68,11 @@ fn write(
     head: Head,
     tree: &[u8],
     letters: usize,
-    gaps: usize,
     room: &mut [u8],
 ) -> Found
-    requires { ⌜ (letters ≤ 8388608) × (gaps ≤ 8388608) ⌝ }
+    requires { ⌜ letters ≤ 8388608 ⌝ }
     ensures { λ r. ⌜ ((M : Table) (t : Tree) (w : Word) → Stands (now (frames .entry)) (now (index .entry)) (now (tree .entry)) 0 64 M t → head ≡ headOf M
-        → word M (M .start) t ≡ some w → letters ≡ length w → gaps ≡ spaces w
+        → word M (M .start) t ≡ some w → letters ≡ length w
         → Answers (into (length (now (room .entry))) (given (M .before ++ w ++ M .after))) (now (room .entry)) (now (room .exit)) r) ⌝ }
 {
     let before = layout::stretch(frames, head.before);
@@ -83,11 +81,10 @@ fn write(
     if room.len() < length {
         return refuse(12, length);
     }
-    let spaces = fields::gaps_of(before) + gaps + fields::gaps_of(after);
     let from = walk::put(before, room, 0);
     walk::eval(64, frames, index, tree, 0, head.start, &mut room[from..]);
     walk::put(after, room, from + letters);
-    let terms = spaces + 1;
+    let terms = terms::terms_in(room, length);
     Found::Word(Letters { length, terms })
 }
 
@@ -105,13 +102,8 @@ pub fn find(frames: &[u8], index: &[u64], head: Head, tree: &[u8], room: &mut [u
         return refuse(6, 0);
     }
     let size = walk::measure(64, frames, index, tree, 0, head.start);
-    let Size::Fits {
-        letters,
-        gaps,
-        next: _,
-    } = size
-    else {
+    let Size::Fits { letters, next: _ } = size else {
         return refuse(9, lacking(size));
     };
-    write(frames, index, head, tree, letters, gaps, room)
+    write(frames, index, head, tree, letters, room)
 }

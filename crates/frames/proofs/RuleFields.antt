@@ -4,10 +4,10 @@ use mathlib.Core.List.{List}
 use Prim.Native.Nat.{ℕ, _+_, _*_, _≤_}
 use native.Mathlib.Omega.{arith}
 use lib.Seq.{slice}
-use Rattle.words.specs.Word.{Word, spaces}
+use Rattle.words.specs.Word.{Word}
 use Rattle.machine.specs.Machine.{Child, Rule}
 use Rattle.text.specs.Fields.{Parsed, got, fault, text, children}
-use Rattle.layout.specs.Layout.{ruleLetters, ruleSpaces, kidsPacked, entryOf}
+use Rattle.layout.specs.Layout.{ruleLetters, kidsPacked, entryOf}
 use Rattle.fields.specs.Read.{kidsFaultOf}
 use Rattle.fields.specs.declared.Kids.{Kids}
 use Rattle.fields.specs.declared.Kids.the-variants as kids
@@ -46,24 +46,24 @@ pub rule-fault : (F : List ℕ) (at end k n : ℕ) (o : Parsed Rule) → o ≡ f
 rule-fault F at end k n o e f = rw e f
 
 -- The sum that is packed is the rule's entry.
-entry-sum : (at : ℕ) (u : Word) (cs : List Child) (n gaps more apart packed x : ℕ) → n + more ≡ ruleLetters (record { first = u; rest = cs }) → gaps + apart ≡ ruleSpaces (record { first = u; rest = cs })
-    → packed ≡ kidsPacked cs → x ≡ n + more + 256 * at + 268435456 * (gaps + apart) + packed → x ≡ entryOf at (record { first = u; rest = cs })
+entry-sum : (at : ℕ) (u : Word) (cs : List Child) (n more packed x : ℕ) → n + more ≡ ruleLetters (record { first = u; rest = cs })
+    → packed ≡ kidsPacked cs → x ≡ n + more + 256 * at + packed → x ≡ entryOf at (record { first = u; rest = cs })
 unfolding entryOf
-entry-sum at u cs n gaps more apart packed x l s p e = omega arith
+entry-sum at u cs n more packed x l p e = omega arith
 
 -- A rule that is read.
-pub rule-got : (F : List ℕ) (at end states k n behind gaps then more apart packed x : ℕ) → IsWord F at end n behind (text (slice at end F)) → gaps ≡ spaces (slice (at + 1) behind F)
-    → IsFamily F behind end then more apart packed (children states k (slice behind end F)) → x ≡ n + more + 256 * at + 268435456 * (gaps + apart) + packed
+pub rule-got : (F : List ℕ) (at end states k n behind then more packed x : ℕ) → IsWord F at end n behind (text (slice at end F))
+    → IsFamily F behind end then more packed (children states k (slice behind end F)) → x ≡ n + more + 256 * at + packed
     → RuleRead F at end (ruleField states k (slice at end F)) (entry.Rule then x)
-unfolding ruleLetters ruleSpaces
-rule-got F at end states k n behind gaps then more apart packed x w g i e =
+unfolding ruleLetters
+rule-got F at end states k n behind then more packed x w i e =
     let c = i .family in
     rw (rule-read states k (slice at end F) (slice (at + 1) behind F) (slice behind end F) (i .read-children) (slice then end F) (w .read) (i .read))
     (record {
       left = refl;
       from = omega (arith, w .next, c .from);
       inside = c .inside;
-      entry = entry-sum at (slice (at + 1) behind F) (i .read-children) n gaps more apart packed x (omega (arith, w .long, c .letters)) (omega (arith, g, c .gaps)) (c .packed) e;
+      entry = entry-sum at (slice (at + 1) behind F) (i .read-children) n more packed x (omega (arith, w .long, c .letters)) (c .packed) e;
     })
 
 -- ---- from the answer to what is read

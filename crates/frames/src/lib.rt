@@ -141,11 +141,11 @@ pub enum Entry {
 }
 
 // The index's number of a rule whose bytes stand at `at`.
-fn pack(at: usize, letters: usize, gaps: usize, packed: u64) -> u64
-    requires { ⌜ (at < 16384) × (letters ≤ 160) × (gaps ≤ 160) × (packed < 144115188075855872) ⌝ }
-    ensures { λ r. ⌜ r ≡ letters + 256 * at + 268435456 * gaps + packed ⌝ }
+fn pack(at: usize, letters: usize, packed: u64) -> u64
+    requires { ⌜ (at < 16384) × (letters ≤ 160) × (packed < 144115188075855872) ⌝ }
+    ensures { λ r. ⌜ r ≡ letters + 256 * at + packed ⌝ }
 {
-    (letters as u64) + 256 * (at as u64) + 268435456 * (gaps as u64) + packed
+    (letters as u64) + 256 * (at as u64) + packed
 }
 
 // A rule's fields behind its symbol, which stand from `at` to `end`: the word u0, then for each of
@@ -165,12 +165,10 @@ fn rule_fields(frames: &[u8], at: usize, end: usize, states: usize, count: usize
             number: fields::number_of(first),
         };
     };
-    let gaps = fields::gaps_of(&frames[at + 1..behind]);
     let rest = fields::children(frames, behind, end, states, count);
     let Kids::Got {
         next,
         letters: more,
-        gaps: apart,
         packed,
     } = rest
     else {
@@ -180,7 +178,7 @@ fn rule_fields(frames: &[u8], at: usize, end: usize, states: usize, count: usize
     };
     Entry::Rule {
         next,
-        entry: pack(at, n + more, gaps + apart, packed),
+        entry: pack(at, n + more, packed),
     }
 }
 

@@ -22,11 +22,11 @@ tame-as e t = subst Tame e t
 
 -- The place that a number tells.
 abbrev pub Told : ℕ → Place → Type 0
-Told x p = (p .at ≡ x / 256 % 16384) × (p .kids ≡ x / 18014398509481984 % 8) × (p .letters ≡ x % 256) × (p .spaces ≡ x / 268435456 % 256)
+Told x p = (p .at ≡ x / 256 % 16384) × (p .kids ≡ x / 18014398509481984 % 8) × (p .letters ≡ x % 256)
 
 -- It is within its bounds, whatever the number is.
 pub told-tame : (x : ℕ) (p : Place) → Told x p → Tame (Found p)
-told-tame x p t = (omega arith, omega arith, omega arith, omega arith)
+told-tame x p t = (omega arith, omega arith, omega arith)
 
 module _ {F I : List ℕ} {M : Table} (o : Opened F I M) (q f : ℕ) where
   -- Where the entry is 0, there is no rule.
@@ -49,6 +49,5 @@ module _ {F I : List ℕ} {M : Table} (o : Opened F I M) (q f : ℕ) where
             there = subst (λ (k : ℕ). RuleAt F k r) (sym (t .0 ∙ u .place)) (d .there);
             kids = t .1 ∙ u .kids;
             letters = t .2 ∙ u .letters;
-            spaces = t .3 ∙ u .spaces;
           }
       go none e = absurd (nz (ex ∙ entry-none o q f e))

@@ -4,17 +4,14 @@ use mathlib.Core.List.{List, [], _∷_}
 use Prim.Native.Nat.{ℕ, _+_, _*_, _/_, _%_, _^_, _<_, _≤_}
 use native.Mathlib.Omega.{arith}
 use lib.ListN.{length}
-use Rattle.words.specs.Word.{spaces}
 use Rattle.machine.specs.Machine.{Child, Rule, Each}
 use Rattle.layout.proofs.Modest.{Modest}
-use Rattle.words.proofs.Terms.{spaces-length}
-use Rattle.layout.specs.Layout.{restLetters, restSpaces, ruleLetters, ruleSpaces, firstState, folded, laterStates, kidsPacked, entryOf}
+use Rattle.layout.specs.Layout.{restLetters, ruleLetters, firstState, folded, laterStates, kidsPacked, entryOf}
 
--- The numbers that make up x: a below 256, p below 16,384, s below 256, c below 64, e below 262,144, k below 8.
-pub record Digits (a p s c e k x : ℕ) : Type 0 where
+-- The numbers that make up x: a below 256, p below 16,384, c below 64, e below 262,144, k below 8.
+pub record Digits (a p c e k x : ℕ) : Type 0 where
   pub letters : x % 256 ≡ a
   pub place : x / 256 % 16384 ≡ p
-  pub spaces : x / 268435456 % 256 ≡ s
   pub kids : x / 18014398509481984 % 8 ≡ k
   pub first : x / 4194304 % 64 ≡ c
   pub last : x / 68719476736 % 64 ≡ e % 64
@@ -23,13 +20,12 @@ pub record Digits (a p s c e k x : ℕ) : Type 0 where
   pub small : x < 2 ^ 57
 
 -- Numbers below their bounds are read off their packed sum.
-pub digits : (a p s c e k : ℕ) → a < 256 → p < 16384 → s < 256 → c < 64 → e < 262144 → k < 8
-    → Digits a p s c e k (a + 256 * p + 2 ^ 28 * s + (2 ^ 22 * c + (2 ^ 36 * e + 2 ^ 54 * k)))
-digits a p s c e k ha hp hs hc he hk =
+pub digits : (a p c e k : ℕ) → a < 256 → p < 16384 → c < 64 → e < 262144 → k < 8
+    → Digits a p c e k (a + 256 * p + (2 ^ 22 * c + (2 ^ 36 * e + 2 ^ 54 * k)))
+digits a p c e k ha hp hc he hk =
     record {
       letters = omega arith;
       place = omega arith;
-      spaces = omega arith;
       kids = omega arith;
       first = omega arith;
       last = omega arith;
@@ -43,12 +39,6 @@ rest-letters-most : (cs : List Child) → Each (λ c ds. (length (c .after) ≤ 
 unfolding restLetters
 rest-letters-most [] h = omega arith
 rest-letters-most (c ∷ cs) h = let i = rest-letters-most cs (h .1) in omega (arith, h .0 .0, i)
-
--- The rest of a rule writes at most as many letters 20 as letters.
-rest-spaces-most : (cs : List Child) → restSpaces cs ≤ restLetters cs
-unfolding restSpaces restLetters
-rest-spaces-most [] = omega arith
-rest-spaces-most (c ∷ cs) = omega (arith, spaces-length (c .after), rest-spaces-most cs)
 
 -- The first child's state is below 64, also where there is none.
 first-state-small : (cs : List Child) → Each (λ c ds. (length (c .after) ≤ 32) × (c .state < 64)) cs → firstState cs < 64
@@ -71,22 +61,17 @@ pub letters-most : {r : Rule} → Modest r → ruleLetters r ≤ 160
 unfolding ruleLetters
 letters-most {r} m = omega (arith, m .first, m .kids, rest-letters-most (r .rest) (m .rest))
 
--- A rule writes at most as many letters 20 as letters.
-pub spaces-below-letters : (r : Rule) → ruleSpaces r ≤ ruleLetters r
-unfolding ruleSpaces ruleLetters
-spaces-below-letters r = omega (arith, spaces-length (r .first), rest-spaces-most (r .rest))
-
--- What is read off the entry x of a rule r whose bytes stand at p: its letters, p, its letters 20, its children.
+-- What is read off the entry x of a rule r whose bytes stand at p: its letters, p, its children.
 abbrev pub Unpacked : ℕ → Rule → ℕ → Type 0
-Unpacked p r x = Digits (ruleLetters r) p (ruleSpaces r) (firstState (r .rest)) (laterStates (r .rest)) (length (r .rest)) x
+Unpacked p r x = Digits (ruleLetters r) p (firstState (r .rest)) (laterStates (r .rest)) (length (r .rest)) x
 
 -- A modest rule's entry unpacks to the rule's numbers.
 pub entry-unpacks : (p : ℕ) {r : Rule} → Modest r → p < 16384 → Unpacked p r (entryOf p r)
 unfolding entryOf kidsPacked
 entry-unpacks p {r} m hp =
     let cs = r .rest in
-    digits (ruleLetters r) p (ruleSpaces r) (firstState cs) (laterStates cs) (length cs) (omega (arith, letters-most m)) hp
-    (omega (arith, letters-most m, spaces-below-letters r)) (first-state-small cs (m .rest)) (later-states-small cs (omega (arith, m .kids)) (m .rest)) (omega (arith, m .kids))
+    digits (ruleLetters r) p (firstState cs) (laterStates cs) (length cs) (omega (arith, letters-most m)) hp
+    (first-state-small cs (m .rest)) (later-states-small cs (omega (arith, m .kids)) (m .rest)) (omega (arith, m .kids))
 
 -- An entry is not 0, since a rule's bytes never stand at the start.
 pub entry-positive : (p : ℕ) (r : Rule) → 0 < p → 0 < entryOf p r

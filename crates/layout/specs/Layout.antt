@@ -5,7 +5,6 @@ use mathlib.Core.List.{List, [], _∷_, _++_}
 use Prim.Native.Nat.{ℕ, zero, suc, _+_, _*_, _^_, _<_}
 use lib.Dec.{eqb}
 use lib.ListN.{length, getD}
-use Rattle.words.specs.Word.{spaces}
 use Rattle.machine.specs.Machine.{Child, Rule, Row, Table}
 use Rattle.text.specs.Writing.{textOf, childrenText, rowFrame, initialFrame, Limited}
 
@@ -38,21 +37,14 @@ framesOf M = headFrames M ++ rowFrames (M .rows) ++ 4 ∷ []
 unfoldable pub ruleText : Rule → List ℕ
 ruleText r = textOf (r .first) ++ childrenText (r .rest)
 
--- How many letters the rest of a rule writes itself, and how many of them are letters 20.
+-- How many letters the rest of a rule writes itself.
 unfoldable pub restLetters : List Child → ℕ
 restLetters [] = 0
 restLetters (c ∷ cs) = length (c .after) + restLetters cs
 
-unfoldable pub restSpaces : List Child → ℕ
-restSpaces [] = 0
-restSpaces (c ∷ cs) = spaces (c .after) + restSpaces cs
-
--- How many letters a rule writes itself, and how many of them are letters 20.
+-- How many letters a rule writes itself.
 unfoldable pub ruleLetters : Rule → ℕ
 ruleLetters r = length (r .first) + restLetters (r .rest)
-
-unfoldable pub ruleSpaces : Rule → ℕ
-ruleSpaces r = spaces (r .first) + restSpaces (r .rest)
 
 -- The state of the first child, 0 if there is none.
 unfoldable pub firstState : List Child → ℕ
@@ -73,9 +65,9 @@ laterStates (c ∷ cs) = folded 0 cs
 unfoldable pub kidsPacked : List Child → ℕ
 kidsPacked cs = 2 ^ 22 * firstState cs + (2 ^ 36 * laterStates cs + 2 ^ 54 * length cs)
 
--- The entry of a rule whose bytes stand at p: its letters, p from bit 8 on, its letters 20 from bit 28 on, its children. It is never 0, since p is not.
+-- The entry of a rule whose bytes stand at p: its letters, p from bit 8 on, its children. It is never 0, since p is not.
 unfoldable pub entryOf : ℕ → Rule → ℕ
-entryOf p r = ruleLetters r + 256 * p + 2 ^ 28 * ruleSpaces r + kidsPacked (r .rest)
+entryOf p r = ruleLetters r + 256 * p + kidsPacked (r .rest)
 
 -- The entry of a state and a symbol, where the frames of the rows stand from p on: 0 if there is no rule. A rule's bytes stand behind kind, state and symbol.
 unfoldable pub entryIn : ℕ → List Row → ℕ → ℕ → ℕ

@@ -8,7 +8,7 @@ use lib.Dec.{ltb}
 use lib.ListN.{length, getD, take, drop}
 use Rattle.words.specs.Word.{Word}
 use Rattle.machine.specs.Machine.{Rule, Table}
-use Rattle.layout.specs.Layout.{headFrames, ruleText, ruleLetters, ruleSpaces}
+use Rattle.layout.specs.Layout.{headFrames, ruleText, ruleLetters}
 use Rattle.layout.specs.declared.Head.{Head}
 use Rattle.layout.specs.declared.Place.{Place}
 use Rattle.layout.specs.declared.Lookup.{Lookup}
@@ -31,12 +31,11 @@ pub record RuleAt (F : List ℕ) (p : ℕ) (r : Rule) : Type 0 where
   pub behind : List ℕ
   pub bytes : drop p F ≡ ruleText r ++ behind
 
--- The place of a rule: where its bytes stand, how many children it has, how many letters and letters 20 it writes.
+-- The place of a rule: where its bytes stand, how many children it has, how many letters it writes.
 pub record PlaceOf (F : List ℕ) (r : Rule) (p : Place) : Type 0 where
   pub there : RuleAt F (p .at) r
   pub kids : p .kids ≡ length (r .rest)
   pub letters : p .letters ≡ ruleLetters r
-  pub spaces : p .spaces ≡ ruleSpaces r
 
 -- What looking up the rule of q and f answers: found, and where, if the table has one; missing if it has none.
 abbrev pub LookedUp : List ℕ → Option Rule → Lookup → Type 0
@@ -47,7 +46,7 @@ LookedUp F none Missing = Unit {0}
 
 -- Whatever the index holds, a place that was found is within these bounds.
 abbrev pub Tame : Lookup → Type 0
-Tame (Found p) = (p .at < 16384) × (p .kids < 8) × (p .letters < 256) × (p .spaces < 256)
+Tame (Found p) = (p .at < 16384) × (p .kids < 8) × (p .letters < 256)
 Tame Missing = Unit {0}
 
 -- What a caller knows of an opened table besides its bytes: its counts, its initial state, where the initial words and the first rule's frame stand.

@@ -31,12 +31,11 @@ pub struct Head {
     pub rules: usize,
 }
 
-// Where a rule's bytes stand, how many children it has, how many letters and letters 20 it writes.
+// Where a rule's bytes stand, how many children it has, how many letters it writes.
 pub struct Place {
     pub at: usize,
     pub kids: usize,
     pub letters: usize,
-    pub spaces: usize,
 }
 
 // The rule of a state and a symbol.
@@ -99,13 +98,12 @@ pub fn entry(index: &[u64], q: usize, f: usize) -> u64
 
 // The place that a number of the index other than 0 tells.
 fn place_of(x: u64) -> Place
-    ensures { λ r. ⌜ (r .at ≡ x / 256 % 16384) × (r .kids ≡ x / 18014398509481984 % 8) × (r .letters ≡ x % 256) × (r .spaces ≡ x / 268435456 % 256) ⌝ }
+    ensures { λ r. ⌜ (r .at ≡ x / 256 % 16384) × (r .kids ≡ x / 18014398509481984 % 8) × (r .letters ≡ x % 256) ⌝ }
 {
     Place {
         at: (x / 256 % 16384) as usize,
         kids: (x / 18014398509481984 % 8) as usize,
         letters: (x % 256) as usize,
-        spaces: (x / 268435456 % 256) as usize,
     }
 }
 

@@ -4,7 +4,7 @@ use mathlib.Core.List.{List, [], _++_, append-nil}
 use Prim.Native.Nat.{ℕ, _+_, _<_, _≤_}
 use native.Mathlib.Omega.{arith}
 use lib.ListN.{length, take, drop}
-use Rattle.words.specs.Word.{Word, spaces}
+use Rattle.words.specs.Word.{Word, terms}
 use Rattle.words.specs.Reply.{Reply, given}
 use Rattle.machine.specs.Machine.{Tree, Table}
 use Rattle.trees.specs.Preorder.{preorder}
@@ -26,16 +26,16 @@ use Rattle.finder.proofs.Read.{into-word}
 use Rattle.swift.proofs.Filled.{three-filled}
 
 -- u and v are the words of the initial rule, and the tree that the bytes S are was counted.
-pub record Ready (F I S P : List ℕ) (head : Head) (letters gaps : ℕ) (u v : Word) (M : Table) : Type 0 where
+pub record Ready (F I S P : List ℕ) (head : Head) (letters : ℕ) (u v : Word) (M : Table) : Type 0 where
   pub opened : Opened F I M
   pub is : head ≡ headOf M
-  pub counted : Counted F S P M (M .start) letters gaps
+  pub counted : Counted F S P M (M .start) letters
   pub first : u ≡ wordAt F (head .before)
   pub last : v ≡ wordAt F (head .after)
 
-module _ {F I S P : List ℕ} {head : Head} {letters gaps : ℕ} {u v : Word} {M : Table} (b : Ready F I S P head letters gaps u v M) where
+module _ {F I S P : List ℕ} {head : Head} {letters : ℕ} {u v : Word} {M : Table} (b : Ready F I S P head letters u v M) where
   -- The tree's word stands between u and v.
-  ready-between : Between F I S head letters gaps u v M (b .counted .tree) (b .counted .letters-of)
+  ready-between : Between F I S head letters u v M (b .counted .tree) (b .counted .letters-of)
   ready-between =
       let k = b .counted in
       record {
@@ -49,7 +49,6 @@ module _ {F I S P : List ℕ} {head : Head} {letters gaps : ℕ} {u v : Word} {M
         is = b .is;
         says = k .is;
         long = k .many;
-        apart = k .gaps-many;
         first = b .first;
         last = b .last;
       }
@@ -82,24 +81,24 @@ module _ {F I S P : List ℕ} {head : Head} {letters gaps : ℕ} {u v : Word} {M
       }
 
   -- In a room that is long enough, u is put at its front, the tree's word behind it, and v behind that.
-  pub ready-fits : {r : Found} (R R₁ R₂ R₃ : List ℕ) (from gu gv : ℕ) → length u + letters + length v ≤ length R
+  pub ready-fits : {r : Found} (R R₁ R₂ R₃ : List ℕ) (from n : ℕ) → length u + letters + length v ≤ length R
       → R₁ ≡ take 0 R ++ u ++ drop (0 + length u) R → from ≡ 0 + length u
       → ((M : Table) (q : ℕ) (t : Tree) (w : Word) → Due F P 0 64 letters M q t w → letters ≡ length w → R₂ ≡ take from R₁ ++ w ++ drop (from + letters) R₁)
       → R₃ ≡ take (from + letters) R₂ ++ v ++ drop (from + letters + length v) R₂
-      → gu ≡ spaces u → gv ≡ spaces v → r ≡ found.Word (record { length = length u + letters + length v; terms = gu + gaps + gv + 1 })
+      → n ≡ terms (take (length u + letters + length v) R₃) → r ≡ found.Word (record { length = length u + letters + length v; terms = n })
       → Answers (wordInto M S (length R)) R R₃ r
-  ready-fits R R₁ R₂ R₃ from gu gv h e₁ ef wrote e₃ eu ev er =
+  ready-fits R R₁ R₂ R₃ from n h e₁ ef wrote e₃ en er =
       let k = b .counted in
       let w : Word = k .letters-of in
       let y = wrote M (M .start) (k .tree) w ready-due (k .many) in
       ready-answer R R₃
-      (between-filled ready-between R R₃ gu gv h eu ev er
+      (between-filled ready-between R R₃ n h en er
       (three-filled R R₁ R₂ R₃ u w v from e₁ ef
       (subst (λ (x : ℕ). R₂ ≡ take from R₁ ++ w ++ drop (from + x) R₁) (k .many) y)
       (subst (λ (x : ℕ). R₃ ≡ take (from + x) R₂ ++ v ++ drop (from + x + length v) R₂) (k .many) e₃)))
 
 -- What a tally that counted says, from the initial state on.
-pub tally-counted : {F S P : List ℕ} {M : Table} {head : Head} {r : Tally} (letters gaps : ℕ) → Tallied F S P M (head .start) r → r ≡ tally.Counted letters gaps
-    → head ≡ headOf M → Counted F S P M (M .start) letters gaps
-tally-counted {F} {S} {P} {M} {head} {r} letters gaps h e i =
-    subst (λ (x : Head). Counted F S P M (x .start) letters gaps) i (subst (λ (x : Tally). Tallied F S P M (head .start) x) e h)
+pub tally-counted : {F S P : List ℕ} {M : Table} {head : Head} {r : Tally} (letters : ℕ) → Tallied F S P M (head .start) r → r ≡ tally.Counted letters
+    → head ≡ headOf M → Counted F S P M (M .start) letters
+tally-counted {F} {S} {P} {M} {head} {r} letters h e i =
+    subst (λ (x : Head). Counted F S P M (x .start) letters) i (subst (λ (x : Tally). Tallied F S P M (head .start) x) e h)

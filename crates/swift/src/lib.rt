@@ -58,12 +58,11 @@ fn write(
     head: Head,
     plan: &[u32; 32768],
     letters: usize,
-    gaps: usize,
     room: &mut [u8],
 ) -> Found
-    requires { ⌜ (letters ≤ 8388608) × (gaps ≤ 8388608) ⌝ }
+    requires { ⌜ letters ≤ 8388608 ⌝ }
     ensures { λ r. ⌜ ((I S : List ℕ) (M : Table) → Opened (now (frames .entry)) I M → head ≡ headOf M
-        → Counted (now (frames .entry)) S (now (plan .entry)) M (M .start) letters gaps
+        → Counted (now (frames .entry)) S (now (plan .entry)) M (M .start) letters
         → Answers (wordInto M S (length (now (room .entry)))) (now (room .entry)) (now (room .exit)) r) ⌝ }
 {
     let bytes: &[u8] = frames;
@@ -76,12 +75,11 @@ fn write(
             place: length,
         });
     }
-    let spaces = fields::gaps_of(before) + gaps + fields::gaps_of(after);
     let from = walk::put(before, room, 0);
     put_tree(frames, plan, letters, room, from);
     let end = from + letters;
     walk::put(after, room, end);
-    let terms = spaces + 1;
+    let terms = terms::terms_in(room, length);
     Found::Word(Letters { length, terms })
 }
 
@@ -98,11 +96,11 @@ pub fn find(
         → Answers (wordInto M (now (tree .entry)) (length (now (room .entry)))) (now (room .entry)) (now (room .exit)) r) ⌝ }
 {
     let counted = tally::measure(index, tree, plan, head.start);
-    let Tally::Counted { letters, gaps } = counted else {
+    let Tally::Counted { letters } = counted else {
         return finder::find(frames, index, head, tree, room);
     };
-    if 8388608 < letters || 8388608 < gaps {
+    if 8388608 < letters {
         return finder::find(frames, index, head, tree, room);
     }
-    write(frames, head, plan, letters, gaps, room)
+    write(frames, head, plan, letters, room)
 }

@@ -8,7 +8,7 @@ use lib.ListN.{length, getD, set, drop}
 use lib.Seq.{drop-cons, drop-length, getD-set-same, getD-set-other}
 use Rattle.machine.specs.Machine.{Forest, ∅, _▸_, Rule, Table, find}
 use Rattle.trees.specs.Preorder.{preorders}
-use Rattle.layout.specs.Layout.{ruleLetters, ruleSpaces}
+use Rattle.layout.specs.Layout.{ruleLetters}
 use Rattle.walk.specs.Plan.{Names}
 use Rattle.tally.specs.Tallied.{Counted}
 use Rattle.tally.proofs.Held.{Held, kids, Fitted, forested}
@@ -17,20 +17,20 @@ use Rattle.tally.proofs.Held.{Held, kids, Fitted, forested}
 abbrev pub Agrees : List ℕ → List ℕ → ℕ → Type 0
 Agrees P P′ at = (i : ℕ) → i < at → getD P′ i 0 ≡ getD P i 0
 
--- So many letters and letters 20 are counted, and the numbers vs wait: whatever trees are right for them, and are the bytes S from `at` on, make S a tree with a word of
+-- So many letters are counted, and the numbers vs wait: whatever trees are right for them, and are the bytes S from `at` on, make S a tree with a word of
 -- state q, which has theirs and those that are counted. The plan of what is before `at` is made.
-pub record Going (F S P : List ℕ) (M : Table) (q : ℕ) (vs : List ℕ) (at letters gaps : ℕ) : Type 0 where
-  pub whole : (P′ : List ℕ) (ts : Forest) (n s : ℕ) → Agrees P P′ at → Held F P′ M ts vs at n s → drop at S ≡ preorders ts → (a b : ℕ) → a ≡ letters + n → b ≡ gaps + s
-      → Counted F S P′ M q a b
+pub record Going (F S P : List ℕ) (M : Table) (q : ℕ) (vs : List ℕ) (at letters : ℕ) : Type 0 where
+  pub whole : (P′ : List ℕ) (ts : Forest) (n : ℕ) → Agrees P P′ at → Held F P′ M ts vs at n → drop at S ≡ preorders ts → (a : ℕ) → a ≡ letters + n
+      → Counted F S P′ M q a
 
 -- At first one state waits: a tree that is right for it is the whole.
-pub going-first : (F S P : List ℕ) (M : Table) (q : ℕ) → q < 64 → length S ≤ 32768 → Going F S P M q (q ∷ []) 0 0 0
-going-first F S P M q l z = record { whole = λ P′ ts n s g h e a b x y. first P′ ts n s h e a b x y }
+pub going-first : (F S P : List ℕ) (M : Table) (q : ℕ) → q < 64 → length S ≤ 32768 → Going F S P M q (q ∷ []) 0 0
+going-first F S P M q l z = record { whole = λ P′ ts n g h e a x. first P′ ts n h e a x }
   where
-    first : (P′ : List ℕ) (ts : Forest) (n s : ℕ) → Held F P′ M ts (q ∷ []) 0 n s → S ≡ preorders ts → (a b : ℕ) → a ≡ 0 + n → b ≡ 0 + s → Counted F S P′ M q a b
-    first P′ ∅ n s h e a b x y = absurd h
-    first P′ (t ▸ (u ▸ ts)) n s h e a b x y = absurd (h .1)
-    first P′ (t ▸ ∅) n s h e a b x y =
+    first : (P′ : List ℕ) (ts : Forest) (n : ℕ) → Held F P′ M ts (q ∷ []) 0 n → S ≡ preorders ts → (a : ℕ) → a ≡ 0 + n → Counted F S P′ M q a
+    first P′ ∅ n h e a x = absurd h
+    first P′ (t ▸ (u ▸ ts)) n h e a x = absurd (h .1)
+    first P′ (t ▸ ∅) n h e a x =
         let m : q % 64 ≡ q = omega arith in
         let d : q / 64 ≡ 0 = omega arith in
         record {
@@ -41,29 +41,28 @@ going-first F S P M q l z = record { whole = λ P′ ts n s g h e a b x y. first
           levels = rw d at (h .0 .levels);
           letters-of = h .0 .letters-of;
           is = rw m at (h .0 .is);
-          many = omega (arith, h .0 .letters, h .1 .0);
-          gaps-many = omega (arith, h .0 .gaps, h .1 .1);
+          many = omega (arith, h .0 .letters, h .1);
           planned = rw m at (h .0 .planned);
         }
 
 -- The first number that waits meets the next symbol, and there is a rule: its children wait now.
-pub going-next : {F S P : List ℕ} {M : Table} {q v : ℕ} {vs : List ℕ} {at letters gaps : ℕ} → Going F S P M q (v ∷ vs) at letters gaps → at < length S → at < length P → v < 4096
+pub going-next : {F S P : List ℕ} {M : Table} {q v : ℕ} {vs : List ℕ} {at letters : ℕ} → Going F S P M q (v ∷ vs) at letters → at < length S → at < length P → v < 4096
     → (r : Rule) (y : ℕ) → find (M .rows) (v % 64) (getD S at 0) ≡ some r → Fitted M (getD S at 0) r → Names F y r
-    → (l g : ℕ) → l ≡ letters + ruleLetters r → g ≡ gaps + ruleSpaces r
-    → Going F S (set P at y) M q (kids (suc (v / 64)) (r .rest) ++ vs) (suc at) l g
-going-next {F} {S} {P} {M} {q} {v} {vs} {at} {letters} {gaps} k i j b r y e f m l g el eg =
+    → (l : ℕ) → l ≡ letters + ruleLetters r
+    → Going F S (set P at y) M q (kids (suc (v / 64)) (r .rest) ++ vs) (suc at) l
+going-next {F} {S} {P} {M} {q} {v} {vs} {at} {letters} k i j b r y e f m l el =
     record {
-      whole = λ P′ ts n s agrees h d x z ex ez.
+      whole = λ P′ ts n agrees h d x ex.
           let here : getD P′ at 0 ≡ y = agrees at (omega arith) ∙ getD-set-same P at y 0 j in
-          let more = forested {F = F} {P = P′} {M = M} (getD S at 0) v r ts {vs = vs} {at = at} n s b e f (rw here m) h in
-          k .whole P′ (more .trees) (ruleLetters r + n) (ruleSpaces r + s)
+          let more = forested {F = F} {P = P′} {M = M} (getD S at 0) v r ts {vs = vs} {at = at} n b e f (rw here m) h in
+          k .whole P′ (more .trees) (ruleLetters r + n)
           (λ o lt. agrees o (omega arith) ∙ getD-set-other P at o y 0 (omega arith))
           (more .held)
           (drop-cons S at 0 i ∙ ap (λ (t : List ℕ). getD S at 0 ∷ t) d ∙ more .bytes)
-          x z (omega arith) (omega arith);
+          x (omega arith);
     }
 
 -- Nothing waits, and all bytes are passed: the whole.
-pub going-last : {F S P : List ℕ} {M : Table} {q at letters gaps : ℕ} → Going F S P M q [] at letters gaps → at ≡ length S → Counted F S P M q letters gaps
-going-last {F} {S} {P} {M} {q} {at} {letters} {gaps} k e =
-    k .whole P ∅ 0 0 (λ i l. refl) (refl, refl) (ap (λ (n : ℕ). drop n S) e ∙ drop-length S ∙ unfold preorders in refl) letters gaps (omega arith) (omega arith)
+pub going-last : {F S P : List ℕ} {M : Table} {q at letters : ℕ} → Going F S P M q [] at letters → at ≡ length S → Counted F S P M q letters
+going-last {F} {S} {P} {M} {q} {at} {letters} k e =
+    k .whole P ∅ 0 (λ i l. refl) refl (ap (λ (n : ℕ). drop n S) e ∙ drop-length S ∙ unfold preorders in refl) letters (omega arith)

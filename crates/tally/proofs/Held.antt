@@ -5,34 +5,31 @@ use mathlib.Core.Option.{some}
 use Prim.Native.Nat.{ℕ, suc, _+_, _-_, _*_, _/_, _%_, _<_}
 use native.Mathlib.Omega.{arith}
 use lib.ListN.{length, getD, length-append}
-use Rattle.words.specs.Word.{Word, spaces}
-use Rattle.words.proofs.Terms.{spaces-append}
+use Rattle.words.specs.Word.{Word}
 use Rattle.machine.specs.Machine.{Tree, Forest, node, ∅, _▸_, Child, Rule, Table, Each, find, word, words}
 use Rattle.machine.specs.Ranks.{count, Ranked, Rankeds}
 use Rattle.machine.proofs.Word.{word-join, words-join}
 use Rattle.trees.specs.Preorder.{preorder, preorders, Levels, Levelss}
-use Rattle.layout.specs.Layout.{restLetters, restSpaces, ruleLetters, ruleSpaces}
+use Rattle.layout.specs.Layout.{restLetters, ruleLetters}
 use Rattle.walk.specs.Plan.{Names, Planned, Planneds}
 
 -- Tree t at place `at` is right for the waiting number v: ranked, within the levels left, with a word of the state, its rules planned.
--- The word is the first of several, which have n letters and s letters 20 in all.
-pub record Front (F P : List ℕ) (M : Table) (t : Tree) (v at n s : ℕ) : Type 0 where
+-- The word is the first of several, which have n letters in all.
+pub record Front (F P : List ℕ) (M : Table) (t : Tree) (v at n : ℕ) : Type 0 where
   pub ranked : Ranked (M .arities) t
   pub levels : Levels t (64 - v / 64)
   pub letters-of : Word
   pub is : word M (v % 64) t ≡ some letters-of
   pub planned : Planned F P M t (v % 64) at
   pub more : ℕ
-  pub more-gaps : ℕ
   pub letters : n ≡ length letters-of + more
-  pub gaps : s ≡ spaces letters-of + more-gaps
 
--- The trees, one after the other from place `at` on, are right for the waiting numbers, with n letters and s letters 20 in all.
-abbrev pub Held : List ℕ → List ℕ → Table → Forest → List ℕ → ℕ → ℕ → ℕ → Type 0
-Held F P M ∅ [] at n s = (n ≡ 0) × (s ≡ 0)
-Held F P M ∅ (v ∷ vs) at n s = ⊥
-Held F P M (t ▸ ts) [] at n s = ⊥
-Held F P M (t ▸ ts) (v ∷ vs) at n s = (h : Front F P M t v at n s) × Held F P M ts vs (at + length (preorder t)) (h .more) (h .more-gaps)
+-- The trees, one after the other from place `at` on, are right for the waiting numbers, with n letters in all.
+abbrev pub Held : List ℕ → List ℕ → Table → Forest → List ℕ → ℕ → ℕ → Type 0
+Held F P M ∅ [] at n = n ≡ 0
+Held F P M ∅ (v ∷ vs) at n = ⊥
+Held F P M (t ▸ ts) [] at n = ⊥
+Held F P M (t ▸ ts) (v ∷ vs) at n = (h : Front F P M t v at n) × Held F P M ts vs (at + length (preorder t)) (h .more)
 
 -- The waiting numbers of a rule's children with e symbols above them.
 abbrev pub kids : ℕ → List Child → List ℕ
@@ -40,7 +37,7 @@ kids e [] = []
 kids e (c ∷ cs) = (64 * e + c .state) ∷ kids e cs
 
 -- Trees for a rule's children and for others: the first are right for the rest of the rule, the others for what waits behind.
-record Parted (F P : List ℕ) (M : Table) (ts : Forest) (e : ℕ) (cs : List Child) (vs : List ℕ) (at n s : ℕ) : Type 0 where
+record Parted (F P : List ℕ) (M : Table) (ts : Forest) (e : ℕ) (cs : List Child) (vs : List ℕ) (at n : ℕ) : Type 0 where
   trees : Forest
   others : Forest
   bytes : preorders ts ≡ preorders trees ++ preorders others
@@ -51,16 +48,14 @@ record Parted (F P : List ℕ) (M : Table) (ts : Forest) (e : ℕ) (cs : List Ch
   is : words M trees cs ≡ some letters-of
   planned : Planneds F P M trees cs at
   more : ℕ
-  more-gaps : ℕ
   letters : n + restLetters cs ≡ length letters-of + more
-  gaps : s + restSpaces cs ≡ spaces letters-of + more-gaps
-  behind : Held F P M others vs (at + length (preorders trees)) more more-gaps
+  behind : Held F P M others vs (at + length (preorders trees)) more
 
 module _ (F P : List ℕ) (M : Table) (e : ℕ) (vs : List ℕ) where
   -- No child: all trees are the others'.
-  part-none : (ts : Forest) (at n s : ℕ) → Held F P M ts vs at n s → Parted F P M ts e [] vs at n s
-  unfolding preorders Levelss words Planneds restLetters restSpaces spaces
-  part-none ts at n s h =
+  part-none : (ts : Forest) (at n : ℕ) → Held F P M ts vs at n → Parted F P M ts e [] vs at n
+  unfolding preorders Levelss words Planneds restLetters
+  part-none ts at n h =
       let z : at ≡ at + 0 = omega arith in
       record {
         trees = ∅;
@@ -73,17 +68,15 @@ module _ (F P : List ℕ) (M : Table) (e : ℕ) (vs : List ℕ) where
         is = refl;
         planned = tt;
         more = n;
-        more-gaps = s;
         letters = omega arith;
-        gaps = omega arith;
-        behind = subst (λ (a : ℕ). Held F P M ts vs a n s) z h;
+        behind = subst (λ (a : ℕ). Held F P M ts vs a n) z h;
       }
 
   -- A child: the first tree is its own.
-  part-child : (t : Tree) (ts : Forest) (c : Child) (cs : List Child) (at n s : ℕ) → c .state < 64 → (h : Front F P M t (64 * e + c .state) at n s)
-      → Parted F P M ts e cs vs (at + length (preorder t)) (h .more) (h .more-gaps) → Parted F P M (t ▸ ts) e (c ∷ cs) vs at n s
-  unfolding preorders Levelss Planneds restLetters restSpaces
-  part-child t ts c cs at n s k h p =
+  part-child : (t : Tree) (ts : Forest) (c : Child) (cs : List Child) (at n : ℕ) → c .state < 64 → (h : Front F P M t (64 * e + c .state) at n)
+      → Parted F P M ts e cs vs (at + length (preorder t)) (h .more) → Parted F P M (t ▸ ts) e (c ∷ cs) vs at n
+  unfolding preorders Levelss Planneds restLetters
+  part-child t ts c cs at n k h p =
       let q : (64 * e + c .state) % 64 ≡ c .state = omega arith in
       let d : (64 * e + c .state) / 64 ≡ e = omega arith in
       let w : word M (c .state) t ≡ some (h .letters-of) = rw q at (h .is) in
@@ -102,17 +95,15 @@ module _ (F P : List ℕ) (M : Table) (e : ℕ) (vs : List ℕ) where
         is = words-join M t (p .trees) c cs x y w (p .is);
         planned = (rw q at (h .planned), p .planned);
         more = p .more;
-        more-gaps = p .more-gaps;
         letters = omega (arith, h .letters, p .letters, length-append x (c .after ++ y), length-append (c .after) y);
-        gaps = omega (arith, h .gaps, p .gaps, spaces-append x (c .after ++ y), spaces-append (c .after) y);
-        behind = subst (λ (a : ℕ). Held F P M (p .others) vs a (p .more) (p .more-gaps)) z (p .behind);
+        behind = subst (λ (a : ℕ). Held F P M (p .others) vs a (p .more)) z (p .behind);
       }
 
   -- Trees for a rule's children and for others part.
-  part : (cs : List Child) (ts : Forest) (at n s : ℕ) → Each (λ c ds. c .state < 64) cs → Held F P M ts (kids e cs ++ vs) at n s → Parted F P M ts e cs vs at n s
-  part [] ts at n s k h = part-none ts at n s h
-  part (c ∷ cs) ∅ at n s k h = absurd h
-  part (c ∷ cs) (t ▸ ts) at n s k h = part-child t ts c cs at n s (k .0) (h .0) (part cs ts (at + length (preorder t)) (h .0 .more) (h .0 .more-gaps) (k .1) (h .1))
+  part : (cs : List Child) (ts : Forest) (at n : ℕ) → Each (λ c ds. c .state < 64) cs → Held F P M ts (kids e cs ++ vs) at n → Parted F P M ts e cs vs at n
+  part [] ts at n k h = part-none ts at n h
+  part (c ∷ cs) ∅ at n k h = absurd h
+  part (c ∷ cs) (t ▸ ts) at n k h = part-child t ts c cs at n (k .0) (h .0) (part cs ts (at + length (preorder t)) (h .0 .more) (k .1) (h .1))
 
 -- A rule that fits the table M: its symbol is in the list, with as many trees as the rule has children, whose states are below 64.
 pub record Fitted (M : Table) (f : ℕ) (r : Rule) : Type 0 where
@@ -121,16 +112,16 @@ pub record Fitted (M : Table) (f : ℕ) (r : Rule) : Type 0 where
   pub states : Each (λ c ds. c .state < 64) (r .rest)
 
 -- Trees for the waiting numbers vs, whose symbols in preorder are the bytes bs.
-pub record Forested (F P : List ℕ) (M : Table) (vs : List ℕ) (at n s : ℕ) (bs : List ℕ) : Type 0 where
+pub record Forested (F P : List ℕ) (M : Table) (vs : List ℕ) (at n : ℕ) (bs : List ℕ) : Type 0 where
   pub trees : Forest
-  pub held : Held F P M trees vs at n s
+  pub held : Held F P M trees vs at n
   pub bytes : bs ≡ preorders trees
 
 -- A symbol with the trees below it: right for the number v, where the rule of v's state is planned there and the trees are right for its children.
-grown : {F P : List ℕ} {M : Table} (f v : ℕ) (r : Rule) {ts : Forest} {vs : List ℕ} {at n s : ℕ} → v < 4096 → find (M .rows) (v % 64) f ≡ some r → Fitted M f r → Names F (getD P at 0) r
-    → Parted F P M ts (suc (v / 64)) (r .rest) vs (suc at) n s → Forested F P M (v ∷ vs) at (ruleLetters r + n) (ruleSpaces r + s) (f ∷ preorders ts)
-unfolding preorder Levels Planned ruleLetters ruleSpaces
-grown {F} {P} {M} f v r {ts} {vs} {at} {n} {s} l e i m p =
+grown : {F P : List ℕ} {M : Table} (f v : ℕ) (r : Rule) {ts : Forest} {vs : List ℕ} {at n : ℕ} → v < 4096 → find (M .rows) (v % 64) f ≡ some r → Fitted M f r → Names F (getD P at 0) r
+    → Parted F P M ts (suc (v / 64)) (r .rest) vs (suc at) n → Forested F P M (v ∷ vs) at (ruleLetters r + n) (f ∷ preorders ts)
+unfolding preorder Levels Planned ruleLetters
+grown {F} {P} {M} f v r {ts} {vs} {at} {n} l e i m p =
     let d : 64 - v / 64 ≡ suc (64 - suc (v / 64)) = omega arith in
     let t : Tree = node f (p .trees) in
     let w = p .letters-of in
@@ -145,16 +136,14 @@ grown {F} {P} {M} f v r {ts} {vs} {at} {n} {s} l e i m p =
           is = word-join M (v % 64) f (p .trees) r w e (p .is);
           planned = (r, e, m, p .planned);
           more = p .more;
-          more-gaps = p .more-gaps;
           letters = omega (arith, p .letters, length-append (r .first) w);
-          gaps = omega (arith, p .gaps, spaces-append (r .first) w);
         },
-        subst (λ (a : ℕ). Held F P M (p .others) vs a (p .more) (p .more-gaps)) z (p .behind),
+        subst (λ (a : ℕ). Held F P M (p .others) vs a (p .more)) z (p .behind),
       );
       bytes = ap (λ (l : List ℕ). f ∷ l) (p .bytes);
     }
 
 -- Trees for a rule's children and for others give trees for the number that the rule is for and the others.
-pub forested : {F P : List ℕ} {M : Table} (f v : ℕ) (r : Rule) (ts : Forest) {vs : List ℕ} {at : ℕ} (n s : ℕ) → v < 4096 → find (M .rows) (v % 64) f ≡ some r → Fitted M f r
-    → Names F (getD P at 0) r → Held F P M ts (kids (suc (v / 64)) (r .rest) ++ vs) (suc at) n s → Forested F P M (v ∷ vs) at (ruleLetters r + n) (ruleSpaces r + s) (f ∷ preorders ts)
-forested {F} {P} {M} f v r ts {vs} {at} n s l e i m h = grown f v r l e i m (part F P M (suc (v / 64)) vs (r .rest) ts (suc at) n s (i .states) h)
+pub forested : {F P : List ℕ} {M : Table} (f v : ℕ) (r : Rule) (ts : Forest) {vs : List ℕ} {at : ℕ} (n : ℕ) → v < 4096 → find (M .rows) (v % 64) f ≡ some r → Fitted M f r
+    → Names F (getD P at 0) r → Held F P M ts (kids (suc (v / 64)) (r .rest) ++ vs) (suc at) n → Forested F P M (v ∷ vs) at (ruleLetters r + n) (f ∷ preorders ts)
+forested {F} {P} {M} f v r ts {vs} {at} n l e i m h = grown f v r l e i m (part F P M (suc (v / 64)) vs (r .rest) ts (suc at) n (i .states) h)

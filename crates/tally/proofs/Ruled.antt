@@ -6,7 +6,7 @@ use Prim.Native.Nat.{ℕ, _+_, _*_, _/_, _%_, _<_, _≤_}
 use native.Mathlib.Omega.{arith}
 use lib.ListN.{length, getD}
 use Rattle.machine.specs.Machine.{Child, Rule, Table, Each, RowFits, find}
-use Rattle.layout.specs.Layout.{ruleLetters, ruleSpaces, firstState, laterStates, Opened}
+use Rattle.layout.specs.Layout.{ruleLetters, firstState, laterStates, Opened}
 use Rattle.layout.specs.Leaves.{entryAt}
 use Rattle.layout.proofs.Index.{entry-inside}
 use Rattle.layout.proofs.Unpack.{Unpacked}
@@ -27,7 +27,6 @@ pub record Ruled (F : List ℕ) (M : Table) (p f x : ℕ) : Type 0 where
   pub names : Names F (planOf x) rule
   pub kids : x / 18014398509481984 % 8 ≡ length (rule .rest)
   pub letters : x % 256 ≡ ruleLetters rule
-  pub spaces : x / 268435456 % 256 ≡ ruleSpaces rule
   pub first : x / 4194304 % 64 ≡ firstState (rule .rest)
   pub last : x / 68719476736 % 64 ≡ laterStates (rule .rest) % 64
   pub second : x / 4398046511104 % 64 ≡ laterStates (rule .rest) / 64 % 64
@@ -64,7 +63,6 @@ module _ {F I : List ℕ} {M : Table} (o : Opened F I M) (p f : ℕ) where
         names = names-rule x d u;
         kids = u .kids;
         letters = u .letters;
-        spaces = u .spaces;
         first = u .first;
         last = u .last;
         second = u .second-last;

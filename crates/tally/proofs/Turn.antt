@@ -1,4 +1,4 @@
--- The loop's state: what waits on the stack decides the whole, and the packed sum is of what is passed.
+-- The loop's state: what waits on the stack decides the whole, and the sum is of what is passed.
 use mathlib.Core.Path.{_≡_, sym, subst, _∙_}
 use mathlib.Core.List.{List, _++_}
 use Prim.Native.Nat.{ℕ, suc, _+_, _-_, _*_, _/_, _%_, _<_, _≤_}
@@ -16,15 +16,14 @@ use Rattle.tally.proofs.Waits.{under, waits, waits-some, stored, push}
 use Rattle.tally.proofs.Ruled.{Ruled, ruled, planOf}
 
 -- Bytes S from state q on: the symbols before `at` are passed, and the plan P is made of them; the stack W with `top` places and the number `next` say what waits;
--- the sum holds their letters, and their letters 20 from bit 28 on.
+-- the sum is of their letters.
 pub record Tallying (I S P : List ℕ) (q : ℕ) (W : List ℕ) (top next sum at : ℕ) : Type 0 where
-  pub going : (F : List ℕ) (M : Table) → Opened F I M → Going F S P M q (waits W top next) at (sum % 268435456) (sum / 268435456)
+  pub going : (F : List ℕ) (M : Table) → Opened F I M → Going F S P M q (waits W top next) at sum
   pub passed : at ≤ length S
   pub short : length S ≤ 32768
   pub long : length S ≤ length P
   pub places : length W ≡ 208
-  pub letters : sum % 268435456 ≤ 256 * at
-  pub gaps : sum / 268435456 ≤ 256 * at
+  pub letters : sum ≤ 256 * at
   pub room : top ≤ 206
 
 -- A place where what is written is not 0 is there.
@@ -48,17 +47,17 @@ tallying-first I S P q W s p w l = record {
   long = p;
   places = w;
   letters = omega arith;
-  gaps = omega arith;
   room = omega arith;
 }
 
 -- Nothing waits behind the last byte: the tree is counted.
 pub tallying-last : {I S P : List ℕ} {q : ℕ} {W : List ℕ} {top next sum at : ℕ} → Tallying I S P q W top next sum at → length S ≤ at → top ≤ 0
-    → (F : List ℕ) (M : Table) → Opened F I M → Counted F S P M q (sum % 268435456) (sum / 268435456)
+    → (F : List ℕ) (M : Table) → Opened F I M → Counted F S P M q (sum % 268435456)
 tallying-last {I} {S} {P} {q} {W} {top} {next} {sum} {at} t l z F M o =
     let e : top ≡ 0 = omega arith in
-    let g = subst (λ (k : ℕ). Going F S P M q (waits W k next) at (sum % 268435456) (sum / 268435456)) e (t .going F M o) in
-    going-last g (omega (arith, t .passed))
+    let g = subst (λ (k : ℕ). Going F S P M q (waits W k next) at sum) e (t .going F M o) in
+    let s : sum % 268435456 ≡ sum = omega (arith, t .letters, t .passed, t .short) in
+    rw s (going-last g (omega (arith, t .passed)))
 
 -- The entry at a place that is the number's state and symbol.
 pub entry-at : (I : List ℕ) (i v f g : ℕ) → i ≡ v % 64 * 64 + f → f ≡ g → getD I i 0 ≡ getD I (v % 64 * 64 + g) 0
@@ -67,7 +66,7 @@ entry-at I i v f g e d = rw (e, d)
 -- What a turn does with the entry x of the number v: the plan's number y, the sum, the numbers of the first child and of the three that are stored, and what comes next.
 pub record Turned (x v y sum sum′ u a b c k below next : ℕ) : Type 0 where
   pub planned : y ≡ planOf x
-  pub counted : sum′ ≡ sum + (x % 256 + x / 268435456 % 256 * 268435456)
+  pub counted : sum′ ≡ sum + x % 256
   pub level : ℕ
   pub level-is : level ≡ 64 * suc (v / 64)
   pub first : u ≡ level + x / 4194304 % 64
@@ -99,36 +98,28 @@ turned-waits W top v {u = u} {a = a} {b = b} {c = c} {k = k} {next = next} top�
     (omega arith)
 
 module _ {I S P : List ℕ} {q : ℕ} {W : List ℕ} {top v sum at : ℕ} (t : Tallying I S P q W top v sum at) where
-  -- The sum's two halves after a turn.
-  halves : (x sum′ : ℕ) → sum′ ≡ sum + (x % 256 + x / 268435456 % 256 * 268435456) → at < length S
-      → (sum′ % 268435456 ≡ sum % 268435456 + x % 256) × (sum′ / 268435456 ≡ sum / 268435456 + x / 268435456 % 256)
-  halves x sum′ e l = (omega (arith, t .letters, t .short), omega (arith, t .letters, t .short))
-
   -- What waits after a turn decides the whole, in every table that the index is of.
   turned-going : {x y sum′ u a b c k next : ℕ} (top′ : ℕ) → at < length S → getD S at 0 < 64 → v ≤ 4095 → 0 < top → top ≤ 200
       → x ≡ getD I (v % 64 * 64 + getD S at 0) 0 → (x ≡ 0 → ⊥) → Turned x v y sum sum′ u a b c k (getD W (top - 1) 0) next → top′ ≡ top + k - 1
-      → (F : List ℕ) (M : Table) → Opened F I M → Going F S (set P at y) M q (waits (pushed W top a b c) top′ next) (suc at) (sum′ % 268435456) (sum′ / 268435456)
+      → (F : List ℕ) (M : Table) → Opened F I M → Going F S (set P at y) M q (waits (pushed W top a b c) top′ next) (suc at) sum′
   turned-going {x} {y} {sum′} {u} {a} {b} {c} {k} {next} top′ l f m h j ex nz d e F M o =
       let r = ruled o (v % 64) (getD S at 0) x (omega arith) f ex nz in
-      let s = halves x sum′ (d .counted) l in
-      let g = subst (λ (vs : List ℕ). Going F S P M q vs at (sum % 268435456) (sum / 268435456)) (waits-some W top v h) (t .going F M o) in
-      subst (λ (vs : List ℕ). Going F S (set P at y) M q vs (suc at) (sum′ % 268435456) (sum′ / 268435456)) (sym (turned-waits W top v top′ (t .places) d h j e r))
+      let g = subst (λ (vs : List ℕ). Going F S P M q vs at sum) (waits-some W top v h) (t .going F M o) in
+      subst (λ (vs : List ℕ). Going F S (set P at y) M q vs (suc at) sum′) (sym (turned-waits W top v top′ (t .places) d h j e r))
       (going-next g l (omega (arith, t .long, t .short)) (omega arith) (r .rule) y (r .found) (r .fitted) (rw (d .planned) (r .names))
-      (sum′ % 268435456) (sum′ / 268435456) (omega (arith, s .0, r .letters)) (omega (arith, s .1, r .spaces)))
+      sum′ (omega (arith, d .counted, r .letters)))
 
   -- One turn: the number that comes next meets its symbol's entry, which is not 0.
   pub tallying-next : {x y sum′ u a b c k next : ℕ} (top′ : ℕ) → at < length S → getD S at 0 < 64 → v ≤ 4095 → 0 < top → top ≤ 200
       → x ≡ getD I (v % 64 * 64 + getD S at 0) 0 → (x ≡ 0 → ⊥) → Turned x v y sum sum′ u a b c k (getD W (top - 1) 0) next → top′ ≡ top + k - 1
       → Tallying I S (set P at y) q (pushed W top a b c) top′ next sum′ (at + 1)
   tallying-next {x} {y} {sum′} {u} {a} {b} {c} {k} {next} top′ l f m h j ex nz d e =
-      let s = halves x sum′ (d .counted) l in
       record {
         going = rw (add-one at) (turned-going top′ l f m h j ex nz d e);
         passed = omega arith;
         short = t .short;
         long = omega (arith, length-set P at y, t .long);
         places = length-set (set (set W top a) (top + 1) b) (top + 2) c ∙ length-set (set W top a) (top + 1) b ∙ length-set W top a ∙ t .places;
-        letters = omega (arith, s .0, t .letters);
-        gaps = omega (arith, s .1, t .gaps);
+        letters = omega (arith, d .counted, t .letters);
         room = omega (arith, d .kids);
       }

@@ -4,7 +4,7 @@ use mathlib.Core.List.{List}
 use mathlib.Core.Option.{some}
 use Prim.Native.Nat.{ℕ, _<_, _≤_}
 use lib.ListN.{length}
-use Rattle.words.specs.Word.{Word, spaces}
+use Rattle.words.specs.Word.{Word}
 use Rattle.machine.specs.Machine.{Tree, Table, word}
 use Rattle.machine.specs.Ranks.{Ranked}
 use Rattle.trees.specs.Preorder.{preorder, Levels}
@@ -12,8 +12,8 @@ use Rattle.walk.specs.Plan.{Planned}
 use Rattle.tally.specs.declared.Tally.{Tally}
 use Rattle.tally.specs.declared.Tally.the-variants as tally
 
--- The bytes S are a tree of at most 32,768 symbols and 64 levels over M's symbols, state q has a word on it with so many letters and letters 20, and the plan P names its rules.
-pub record Counted (F S P : List ℕ) (M : Table) (q letters gaps : ℕ) : Type 0 where
+-- The bytes S are a tree of at most 32,768 symbols and 64 levels over M's symbols, state q has a word on it with so many letters, and the plan P names its rules.
+pub record Counted (F S P : List ℕ) (M : Table) (q letters : ℕ) : Type 0 where
   pub tree : Tree
   pub bytes : S ≡ preorder tree
   pub size : length S ≤ 32768
@@ -22,12 +22,11 @@ pub record Counted (F S P : List ℕ) (M : Table) (q letters gaps : ℕ) : Type 
   pub letters-of : Word
   pub is : word M q tree ≡ some letters-of
   pub many : letters ≡ length letters-of
-  pub gaps-many : gaps ≡ spaces letters-of
   pub planned : Planned F P M tree q 0
 
 -- What a tally says: where it counted, that; where it did not, nothing (the slow pass then tells why).
 abbrev pub Tallied : List ℕ → List ℕ → List ℕ → Table → ℕ → Tally → Type 0
-Tallied F S P M q (tally.Counted letters gaps) = Counted F S P M q letters gaps
+Tallied F S P M q (tally.Counted letters) = Counted F S P M q letters
 Tallied F S P M q tally.Other = Unit {0}
 
 -- Tree bytes S of a length that is read, a plan P with a place for each of them, and a state q.

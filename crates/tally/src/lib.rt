@@ -1,6 +1,6 @@
-// The fast measuring pass: shape, letters and letters 20 of a tree in one loop over its bytes,
-// which leaves the plan for the writing pass. Where it meets anything unusual it says so, and the
-// slow pass finds the number and the place.
+// The fast measuring pass: shape and letters of a tree in one loop over its bytes, which leaves the
+// plan for the writing pass. Where it meets anything unusual it says so, and the slow pass finds the
+// number and the place.
 ghost use mathlib.Core.Path.{_≡_};
 ghost use mathlib.Core.List.{List};
 ghost use Prim.Native.Nat.{ℕ, suc, _+_, _*_, _/_, _%_, _<_, _≤_};
@@ -10,9 +10,9 @@ ghost use Rattle.machine.specs.Machine.{Table};
 ghost use Rattle.layout.specs.Layout.{Opened};
 ghost use Rattle.tally.specs.Tallied.{Tallied, Ready, Usual, NextIs};
 
-// A tree's letters and letters 20; or that it is no tree with a word.
+// A tree's letters; or that it is no tree with a word.
 pub enum Tally {
-    Counted { letters: usize, gaps: usize },
+    Counted { letters: usize },
     Other,
 }
 
@@ -22,11 +22,11 @@ fn wide(x: u8) -> usize
     x as usize
 }
 
-// The part of a rule's number that counts: letters, and letters 20 from bit 28 on.
+// How many letters a rule's words have.
 fn counts(x: u64) -> u64
-    ensures { λ r. ⌜ (r ≡ x % 256 + x / 268435456 % 256 * 268435456) × (r ≤ 68451041535) ⌝ }
+    ensures { λ r. ⌜ (r ≡ x % 256) × (r < 256) ⌝ }
 {
-    x % 256 + x / 268435456 % 256 * 268435456
+    x % 256
 }
 
 // The plan's number of a rule: where it stands, and from 16,384 on how many children it has.
@@ -162,8 +162,8 @@ pub fn measure(index: &[u64; 4096], tree: &[u8], plan: &mut [u32; 32768], q: usi
     if 0 < top {
         return Tally::Other;
     }
+    // The rest of the division is the sum; with it the compiler keeps nothing but the sum in the loop.
     Tally::Counted {
         letters: (sum % 268435456) as usize,
-        gaps: (sum / 268435456) as usize,
     }
 }

@@ -4,7 +4,7 @@ use mathlib.Core.List.{List, [], _∷_, _++_}
 use mathlib.Core.Option.{Option, none, some}
 use Prim.Native.Nat.{ℕ, _+_, _*_, _<_, _≤_}
 use lib.ListN.{length, getD, drop}
-use Rattle.words.specs.Word.{Word, spaces}
+use Rattle.words.specs.Word.{Word}
 use Rattle.machine.specs.Machine.{Tree, Forest, Table, word}
 use Rattle.machine.specs.Ranks.{Ranked}
 use Rattle.trees.specs.Preorder.{preorder, Levels}
@@ -23,16 +23,16 @@ pub record Stands (F I S : List ℕ) (at allowed : ℕ) (M : Table) (t : Tree) :
   pub behind : List ℕ
   pub bytes : drop at S ≡ preorder t ++ behind
 
--- What measuring answers: the word's letters and letters 20 and the place behind the tree, or the first position without a rule.
+-- What measuring answers: the word's letters and the place behind the tree, or the first position without a rule.
 abbrev pub Measured : ℕ → ℕ → Option Word → Option ℕ → Size → Type 0
-Measured at n (some w) lacking (size.Fits letters gaps next) = (letters ≡ length w) × (gaps ≡ spaces w) × (next ≡ at + n)
+Measured at n (some w) lacking (size.Fits letters next) = (letters ≡ length w) × (next ≡ at + n)
 Measured at n (some w) lacking (size.Lacks p) = ⊥
-Measured at n none lacking (size.Fits letters gaps next) = ⊥
+Measured at n none lacking (size.Fits letters next) = ⊥
 Measured at n none lacking (size.Lacks p) = lacking ≡ some p
 
--- Whatever the bytes are: at most so many letters and letters 20 for each symbol passed, and no place beyond the tree.
+-- Whatever the bytes are: at most so many letters for each symbol passed, and no place beyond the tree.
 abbrev pub Bounded : ℕ → ℕ → Size → Type 0
-Bounded len at (size.Fits letters gaps next) = (letters + 256 * at ≤ 256 * next) × (gaps + 256 * at ≤ 256 * next) × (next ≤ len)
+Bounded len at (size.Fits letters next) = (letters + 256 * at ≤ 256 * next) × (next ≤ len)
 Bounded len at (size.Lacks p) = p ≤ len
 
 -- What writing answers, and the room after it: the word first, and the rest unchanged.

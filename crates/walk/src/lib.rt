@@ -12,13 +12,9 @@ ghost use Rattle.trees.specs.Preorder.{preorder};
 ghost use Rattle.trees.specs.Lacking.{lacks};
 ghost use Rattle.walk.specs.Walked.{Stands, Measured, Bounded, Written, Inside};
 
-// A tree's letters and letters 20, and the place behind it; or the first position without a rule.
+// A tree's letters and the place behind it; or the first position without a rule.
 pub enum Size {
-    Fits {
-        letters: usize,
-        gaps: usize,
-        next: usize,
-    },
+    Fits { letters: usize, next: usize },
     Lacks(usize),
 }
 
@@ -52,7 +48,6 @@ pub fn measure(
         return Size::Lacks(at);
     };
     let mut letters = place.letters;
-    let mut gaps = place.spaces;
     let mut left = place.kids;
     let mut next = at + 1;
     let mut pos = layout::behind(frames, place.at);
@@ -61,23 +56,17 @@ pub fn measure(
         let below = measure(levels - 1, frames, index, tree, next, state);
         let Size::Fits {
             letters: more,
-            gaps: apart,
             next: after,
         } = below
         else {
             return below;
         };
         letters += more;
-        gaps += apart;
         next = after;
         pos = layout::behind(frames, pos + 1);
         left -= 1;
     }
-    Size::Fits {
-        letters,
-        gaps,
-        next,
-    }
+    Size::Fits { letters, next }
 }
 
 // Copies a word into the room from `at` on, and answers the place behind it.

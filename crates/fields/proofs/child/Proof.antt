@@ -1,11 +1,6 @@
 -- `child` meets its contract. Assumes nothing.
-use mathlib.Core.Path.{ap, _∙_}
-use Prim.Native.Nat.{_+_, _-_}
-use native.Mathlib.Omega.{arith}
 use lib.Seq.{slice}
 use Rattle.text.specs.Fields as text
-use Rattle.fields.proofs.Slices.{slice-part}
-use Rattle.words.specs.Word.{spaces}
 use Rattle.fields.proofs.Numbers as law
 use Rattle.fields.proofs.Words as word
 use Rattle.fields.proofs.Family as child
@@ -74,30 +69,13 @@ worded c =
     let w = c .before .before .before .word in
     word.got-word (a .frames .now) (n .before .first .given .0 .1 .0) (a .end) _ _ _ (w .result) (c .before .second .given .1) (w .ensures)
 
-add-gaps-of : tie.Need-add-gaps-of
-add-gaps-of c = omega (arith, worded c .next, worded c .inside, c .before .before .before .before .before .before .before .before .before .pre .1)
-
-sub-gaps-of : tie.Need-sub-gaps-of
-sub-gaps-of c = omega (arith, worded c .next)
-
-part-gaps-of-start : tie.Need-part-gaps-of-start
-part-gaps-of-start c = omega (arith, worded c .next)
-
-part-gaps-of-end : tie.Need-part-gaps-of-end
-part-gaps-of-end c = omega (arith, worded c .inside, c .before .before .before .before .before .before .before .before .before .pre .1)
-
-gaps-of-requires : tie.Need-gaps-of-requires
-gaps-of-requires c κs = search needs
-
 returns-3 : tie.Need-returns-3
 returns-3 c =
-    let a = c .before .before .before .before .before .before .before .before .before .before .before .args in
-    let f = c .before .before .before .before .before .before .before .first in
-    let s = c .before .before .before .second in
-    let w = worded (c .before .before) in
-    child.child-got (a .frames .now) (a .at) (a .end) (a .states) (f .given .0 .0) (f .given .0 .1 .0) (s .given .0 .0) (s .given .0 .1 .0) (c .gaps-of .result)
-    (numbered (c .before .before .before .before .before .before)) w
-    (c .gaps-of .ensures .0 ∙ ap spaces (slice-part (f .given .0 .1 .0 + 1) (s .given .0 .1 .0) (a .frames .now) (omega (arith, w .next))))
+    let n = c .before .before .before .before in
+    let a = n .before .before .before .before .before .args in
+    let f = n .before .first in
+    let s = c .before .second in
+    child.child-got (a .frames .now) (a .at) (a .end) (a .states) (f .given .0 .0) (f .given .0 .1 .0) (s .given .0 .0) (s .given .0 .1 .0) (numbered n) (worded c)
 
 pub child-spec : {M : Type 1} → statement M
 child-spec =
@@ -113,9 +91,4 @@ child-spec =
     enum-told-2
     number-of-requires-2
     returns-2
-    add-gaps-of
-    sub-gaps-of
-    part-gaps-of-start
-    part-gaps-of-end
-    gaps-of-requires
     returns-3)

@@ -4,7 +4,6 @@ use Prim.Native.Nat.{_<_, _≤_}
 use native.Mathlib.Omega.{arith}
 use lib.Seq.{slice}
 use Rattle.fields.specs.Read.{oneChild}
-use Rattle.words.proofs.Terms.{spaces-length}
 use Rattle.fields.proofs.Family as child
 use Rattle.fields.proofs.Siblings as law
 use Rattle.fields.proofs.Siblings.{Begun}
@@ -12,10 +11,10 @@ use Rattle.fields.proofs.children.Statement.{statement}
 use Rattle.fields.proofs.children.Tie as tie
 
 abbrev Inv-loop : tie.InvT-loop
-Inv-loop frames at end states count next₀ letters₀ gaps₀ first₀ rest₀ left₀ next letters gaps first rest left = Begun frames at end states count next letters gaps first rest left
+Inv-loop frames at end states count next₀ letters₀ first₀ rest₀ left₀ next letters first rest left = Begun frames at end states count next letters first rest left
 
 abbrev μ-loop : tie.MeasureT-loop
-μ-loop frames at end states count next₀ letters₀ gaps₀ first₀ rest₀ left₀ next letters gaps first rest left = left
+μ-loop frames at end states count next₀ letters₀ first₀ rest₀ left₀ next letters first rest left = left
 
 loop-holds : tie.Need-loop-holds Inv-loop μ-loop
 loop-holds c =
@@ -48,12 +47,12 @@ given : (c : tie.After-known-told Inv-loop μ-loop) →
     let l = c .before .before .before .before .before .loop in
     let a = c .before .before .before .before .before .before .before .args in
     let g = c .before .got .given .0 in
-    child.IsChild (a .frames .now) (l .next) (a .end) (g .0) (g .1 .0) (g .1 .1 .0) (g .1 .1 .1 .0) (oneChild (a .states) (slice (l .next) (a .end) (a .frames .now)))
+    child.IsChild (a .frames .now) (l .next) (a .end) (g .0) (g .1 .0) (g .1 .1 .0) (oneChild (a .states) (slice (l .next) (a .end) (a .frames .now)))
 given c =
     let l = c .before .before .before .before .before .loop in
     let a = c .before .before .before .before .before .before .before .args in
     let r = c .before .before .before .child in
-    child.got-child (a .frames .now) (l .next) (a .end) _ _ _ _ _ (r .result) (c .before .got .given .1) (r .ensures)
+    child.got-child (a .frames .now) (l .next) (a .end) _ _ _ _ (r .result) (c .before .got .given .1) (r .ensures)
 
 -- Its state is below 64.
 state-small : (c : tie.After-known-told Inv-loop μ-loop) → c .before .got .given .0 .0 < 64
@@ -61,10 +60,6 @@ state-small c =
     let a = c .before .before .before .before .before .before .before .args in
     let i = given c in
     omega (arith, child.child-below (a .states) _ (i .child) _ (i .read), i .state, c .before .before .before .before .before .before .before .pre .1 .0)
-
--- Its letters 20 are some of its letters.
-gaps-small : (c : tie.After-known-told Inv-loop μ-loop) → c .before .got .given .0 .1 .1 .1 .0 ≤ 32
-gaps-small c = let i = given c in omega (arith, i .gaps, i .letters, i .short, spaces-length (i .child .after))
 
 -- The other states before it have room.
 rest-small : (c : tie.After-known-told Inv-loop μ-loop) → c .before .before .before .before .before .loop .rest < 262144
@@ -89,11 +84,6 @@ add-letters c =
     let l = c .before .before .before .before .before .before .before .loop in
     omega (arith, given (c .before .before) .short, l .inv .few, l .inv .number, c .before .before .before .before .before .before .before .before .before .pre .1 .1)
 
-add-gaps : tie.Need-add-gaps Inv-loop μ-loop
-add-gaps c =
-    let l = c .before .before .before .before .before .before .before .loop in
-    omega (arith, gaps-small (c .before .before), l .inv .gaps-few, l .inv .few, l .inv .number, c .before .before .before .before .before .before .before .before .before .pre .1 .1)
-
 sub-left : tie.Need-sub-left Inv-loop μ-loop
 sub-left c = search needs
 
@@ -104,7 +94,7 @@ loop-again : tie.Need-loop-again Inv-loop μ-loop
 loop-again c =
     let t = c .before .before .before .before .before .before in
     let p = t .before .before .before .pre in
-    law.begun-more (t .before .loop .inv) _ _ _ _ (c .before .first-after .result) (c .rest-after .result) (t .loop-test .taken) (p .1 .0) (given (c .before .before)) (c .before .first-after .ensures) (c .rest-after .ensures)
+    law.begun-more (t .before .loop .inv) _ _ _ (c .before .first-after .result) (c .rest-after .result) (t .loop-test .taken) (p .1 .0) (given (c .before .before)) (c .before .first-after .ensures) (c .rest-after .ensures)
 
 packed-of-requires : tie.Need-packed-of-requires Inv-loop μ-loop
 packed-of-requires c κs =
@@ -134,7 +124,6 @@ children-spec =
     sub-rest-after
     rest-after-requires
     add-letters
-    add-gaps
     sub-left
     loop-less
     loop-again

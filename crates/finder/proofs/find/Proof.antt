@@ -80,9 +80,9 @@ write-requires c κs =
     let fits = c .before .before .size .given in
     let measured = c .before .before .before .before in
     let tree = measured .before .before .before .before .before .before .before .before .before .args .tree .now in
-    let b : Bounded (length tree) 0 (size.Fits (fits .0 .0) (fits .0 .1 .0) (fits .0 .1 .1 .0)) = rw (fits .1) at (measured .measure .ensures .1) in
+    let b : Bounded (length tree) 0 (size.Fits (fits .0 .0) (fits .0 .1 .0)) = rw (fits .1) at (measured .measure .ensures .1) in
     let small : length tree ≤ 32768 = measured .before .if1 .left in
-    (omega arith, omega arith)
+    omega arith
 
 same-length : tie.Need-same-length
 same-length c = search needs
@@ -101,8 +101,7 @@ returns-4 c =
     (measured .measure .result)
     (measured .measure .ensures .0)
     (checked .before .before .before .before .before .args .room .now)
-    (written .write .last .1 .1 .1 .1 .1 .1 .0)
-    _
+    (written .write .last .1 .1 .1 .1 .1 .0)
     _
     _
     (written .before .before .before .size .given .1)

@@ -1,12 +1,7 @@
 -- `rule_fields` meets its contract. Assumes nothing.
-use mathlib.Core.Path.{_≡_, ap, _∙_}
-use Prim.Native.Nat.{_+_, _≤_}
 use native.Mathlib.Omega.{arith}
 use lib.Seq.{slice}
-use Rattle.words.specs.Word.{spaces}
 use Rattle.text.specs.Fields as text
-use Rattle.fields.proofs.Slices.{slice-part}
-use Rattle.words.proofs.Terms.{spaces-length}
 use Rattle.fields.proofs.Family.{fault-of}
 use Rattle.fields.proofs.Words as word
 use Rattle.fields.proofs.Siblings as kids
@@ -44,25 +39,10 @@ worded c =
     let w = c .before .before .before .word in
     word.got-word (a .frames .now) (a .at) (a .end) _ _ _ (w .result) (c .before .first .given .1) (w .ensures)
 
-add-gaps-of : tie.Need-add-gaps-of
-add-gaps-of c = search needs
-
-sub-gaps-of : tie.Need-sub-gaps-of
-sub-gaps-of c = omega (arith, worded c .next)
-
-part-gaps-of-start : tie.Need-part-gaps-of-start
-part-gaps-of-start c = omega (arith, worded c .next)
-
-part-gaps-of-end : tie.Need-part-gaps-of-end
-part-gaps-of-end c = omega (arith, worded c .inside, c .before .before .before .before .before .pre .0 .2)
-
-gaps-of-requires : tie.Need-gaps-of-requires
-gaps-of-requires c κs = search needs
-
 children-requires : tie.Need-children-requires
 children-requires c κs =
-    let p = c .before .before .before .before .before .before .before .pre in
-    ((worded (c .before .before) .inside, p .0 .2), p .1)
+    let p = c .before .before .before .before .before .pre in
+    ((worded c .inside, p .0 .2), p .1)
 
 enum-known-rest : tie.Need-enum-known-rest
 enum-known-rest c = search needs
@@ -75,64 +55,42 @@ kids-number-requires c κs = search needs
 
 returns-2 : tie.Need-returns-2
 returns-2 c =
-    let a = c .before .before .before .before .before .before .before .before .before .before .before .args in
-    let f = c .before .before .before .before .before .before .before .first in
+    let a = c .before .before .before .before .before .before .before .before .before .args in
+    let f = c .before .before .before .before .before .first in
     let r = c .before .before .before .children in
     let k = c .before .enum-told2 .given .0 .0 in
     law.rule-fault (a .frames .now) (a .at) (a .end) k _ _
-    (law.rest-fault (a .states) (a .count) _ _ _ k (worded (c .before .before .before .before .before .before) .read)
+    (law.rest-fault (a .states) (a .count) _ _ _ k (worded (c .before .before .before .before) .read)
     (kids.fault-kids (a .frames .now) (f .given .0 .1 .0) (a .end) k _ (r .result) (c .before .enum-told2 .given .1) (r .ensures)))
     (law.kids-fault-of (r .result) (c .kids-number .result) k (c .before .enum-told2 .given .1) (c .kids-number .ensures))
 
 -- What the children's bytes give.
 given : (c : tie.After-known-told2) →
-    let a = c .before .before .before .before .before .before .before .before .before .before .before .args in
-    let f = c .before .before .before .before .before .before .before .first in
+    let a = c .before .before .before .before .before .before .before .before .before .args in
+    let f = c .before .before .before .before .before .first in
     let g = c .before .rest .given .0 in
-    kids.IsFamily (a .frames .now) (f .given .0 .1 .0) (a .end) (g .0) (g .1 .0) (g .1 .1 .0) (g .1 .1 .1 .0) (text.children (a .states) (a .count) (slice (f .given .0 .1 .0) (a .end) (a .frames .now)))
+    kids.IsFamily (a .frames .now) (f .given .0 .1 .0) (a .end) (g .0) (g .1 .0) (g .1 .1 .0) (text.children (a .states) (a .count) (slice (f .given .0 .1 .0) (a .end) (a .frames .now)))
 given c =
-    let a = c .before .before .before .before .before .before .before .before .before .before .before .args in
-    let f = c .before .before .before .before .before .before .before .first in
+    let a = c .before .before .before .before .before .before .before .before .before .args in
+    let f = c .before .before .before .before .before .first in
     let r = c .before .before .before .children in
-    kids.got-kids (a .frames .now) (f .given .0 .1 .0) (a .end) _ _ _ _ _ (r .result) (c .before .rest .given .1) (r .ensures)
-
--- The letters 20 of the first word.
-gaps-are : (c : tie.After-known-told2) →
-    let a = c .before .before .before .before .before .before .before .before .before .before .before .args in
-    let f = c .before .before .before .before .before .before .before .first in
-    c .before .before .before .before .gaps-of .result ≡ spaces (slice (a .at + 1) (f .given .0 .1 .0) (a .frames .now))
-gaps-are c =
-    let a = c .before .before .before .before .before .before .before .before .before .before .before .args in
-    let f = c .before .before .before .before .before .before .before .first in
-    let w = worded (c .before .before .before .before .before .before) in
-    c .before .before .before .before .gaps-of .ensures .0 ∙ ap spaces (slice-part (a .at + 1) (f .given .0 .1 .0) (a .frames .now) (omega (arith, w .next)))
-
--- They are at most 32.
-gaps-small : (c : tie.After-known-told2) → c .before .before .before .before .gaps-of .result ≤ 32
-gaps-small c =
-    let a = c .before .before .before .before .before .before .before .before .before .before .before .args in
-    let f = c .before .before .before .before .before .before .before .first in
-    let w = worded (c .before .before .before .before .before .before) in
-    omega (arith, gaps-are c, spaces-length (slice (a .at + 1) (f .given .0 .1 .0) (a .frames .now)), w .long, w .short)
+    kids.got-kids (a .frames .now) (f .given .0 .1 .0) (a .end) _ _ _ _ (r .result) (c .before .rest .given .1) (r .ensures)
 
 add-pack : tie.Need-add-pack
-add-pack c = omega (arith, worded (c .before .before .before .before .before .before) .short, given c .family .few)
-
-add-pack-2 : tie.Need-add-pack-2
-add-pack-2 c = omega (arith, gaps-small c, given c .family .few, given c .family .gaps-few)
+add-pack c = omega (arith, worded (c .before .before .before .before) .short, given c .family .few)
 
 pack-requires : tie.Need-pack-requires
 pack-requires c κs =
-    let w = worded (c .before .before .before .before .before .before) in
+    let w = worded (c .before .before .before .before) in
     let f = given c .family in
-    let p = c .before .before .before .before .before .before .before .before .before .before .before .pre in
-    (omega (arith, w .next, w .inside, p .0 .1), omega (arith, w .short, f .few), omega (arith, gaps-small c, f .few, f .gaps-few), f .small)
+    let p = c .before .before .before .before .before .before .before .before .before .pre in
+    (omega (arith, w .next, w .inside, p .0 .1), omega (arith, w .short, f .few), f .small)
 
 returns-3 : tie.Need-returns-3
 returns-3 c =
-    let a = c .before .before .before .before .before .before .before .before .before .before .before .before .args in
-    let w = worded (c .before .before .before .before .before .before .before) in
-    law.rule-got (a .frames .now) (a .at) (a .end) (a .states) (a .count) _ _ _ _ _ _ _ (c .pack .result) w (gaps-are (c .before)) (given (c .before)) (c .pack .ensures)
+    let a = c .before .before .before .before .before .before .before .before .before .before .args in
+    let w = worded (c .before .before .before .before .before) in
+    law.rule-got (a .frames .now) (a .at) (a .end) (a .states) (a .count) _ _ _ _ _ (c .pack .result) w (given (c .before)) (c .pack .ensures)
 
 pub rule-fields-spec : {M : Type 1} → statement M
 rule-fields-spec =
@@ -143,17 +101,11 @@ rule-fields-spec =
     enum-told
     number-of-requires
     returns
-    add-gaps-of
-    sub-gaps-of
-    part-gaps-of-start
-    part-gaps-of-end
-    gaps-of-requires
     children-requires
     enum-known-rest
     enum-told-2
     kids-number-requires
     returns-2
     add-pack
-    add-pack-2
     pack-requires
     returns-3)

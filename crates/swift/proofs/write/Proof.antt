@@ -27,18 +27,6 @@ returns c =
     (c .if1 .taken)
     refl
 
-gaps-of-requires : tie.Need-gaps-of-requires
-gaps-of-requires c κs = search needs
-
-add-spaces : tie.Need-add-spaces
-add-spaces c = search needs
-
-gaps-of-requires-2 : tie.Need-gaps-of-requires-2
-gaps-of-requires-2 c κs = search needs
-
-add-spaces-2 : tie.Need-add-spaces-2
-add-spaces-2 c = search needs
-
 put-requires : tie.Need-put-requires
 put-requires c κs = search needs
 
@@ -51,35 +39,29 @@ add-end c = search needs
 put-requires-2 : tie.Need-put-requires-2
 put-requires-2 c κs = search needs
 
-add-terms : tie.Need-add-terms
-add-terms c = search needs
+terms-in-requires : tie.Need-terms-in-requires
+terms-in-requires c κs = search needs
 
 same-length : tie.Need-same-length
 same-length c = search needs
 
 returns-2 : tie.Need-returns-2
 returns-2 c =
-    let written = c .before .before .before .before .before .before in
-    let begun = written .before .before .before .before in
-    let counted = begun .before .before in
-    let words = counted .before .before .before in
     λ I S M o e k.
     ready-fits
-    (record { opened = o; is = e; counted = k; first = words .before .stretch .ensures .0; last = words .stretch2 .ensures .0 })
-    (words .before .before .before .before .args .room .now)
-    (begun .put .last .1 .0)
-    (written .put-tree .last .1 .1 .1 .0)
-    (c .before .before .put2 .last .1 .0)
-    (begun .put .result)
-    (counted .before .gaps-of .result)
-    (counted .gaps-of2 .result)
-    (counted .before .before .if1 .left)
-    (begun .put .ensures .1)
-    (begun .put .ensures .0)
-    (written .put-tree .ensures)
-    (c .before .before .put2 .ensures .1)
-    (counted .before .gaps-of .ensures .0)
-    (counted .gaps-of2 .ensures .0)
+    (record { opened = o; is = e; counted = k; first = c .before .before .before .before .before .before .before .before .before .before .before .before .before .before .before .before .stretch .ensures .0; last = c .before .before .before .before .before .before .before .before .before .before .before .before .before .before .before .stretch2 .ensures .0 })
+    (c .before .before .before .before .before .before .before .before .before .before .before .before .before .before .before .before .before .before .before .args .room .now)
+    (c .before .before .before .before .before .before .before .before .before .before .before .before .put .last .1 .0)
+    (c .before .before .before .before .before .before .before .before .put-tree .last .1 .1 .1 .0)
+    (c .before .before .before .before .put2 .last .1 .0)
+    (c .before .before .before .before .before .before .before .before .before .before .before .before .put .result)
+    (c .terms-in .result)
+    (c .before .before .before .before .before .before .before .before .before .before .before .before .before .before .if1 .left)
+    (c .before .before .before .before .before .before .before .before .before .before .before .before .put .ensures .1)
+    (c .before .before .before .before .before .before .before .before .before .before .before .before .put .ensures .0)
+    (c .before .before .before .before .before .before .before .before .put-tree .ensures)
+    (c .before .before .before .before .put2 .ensures .1)
+    (c .terms-in .ensures)
     refl
 
 pub write-spec : {M : Type 1} → statement M
@@ -91,14 +73,10 @@ write-spec =
     add-length
     add-length-2
     returns
-    gaps-of-requires
-    add-spaces
-    gaps-of-requires-2
-    add-spaces-2
     put-requires
     put-tree-requires
     add-end
     put-requires-2
-    add-terms
+    terms-in-requires
     same-length
     returns-2)

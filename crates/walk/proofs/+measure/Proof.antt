@@ -1,5 +1,5 @@
 -- `measure` meets its contract. The loop's invariant: some children of the rule and as many trees are left, and they decide the whole;
--- at most 256 letters and letters 20 for each symbol passed; the children left have their bytes below 20,000. Assumes nothing.
+-- at most 256 letters for each symbol passed; the children left have their bytes below 20,000. Assumes nothing.
 use mathlib.Core.Path.{_≡_, sym, _∙_}
 use mathlib.Core.Logic.{⊎-elim}
 use Prim.Native.Nat.{ℕ, _+_, _-_, _*_, _<_, _≤_}
@@ -41,15 +41,14 @@ abbrev K : ℕ → measure-lts.Claims
 K t = (wide-reads.Asked, wide-reads.Learnt, rule-of-reads.Asked, rule-of-reads.Learnt, behind-reads.Asked, behind-reads.Learnt, byte-reads.Asked, byte-reads.Learnt, measure-below t, measure.Post)
 
 abbrev measure-Inv-loop : measure-lts.InvT-loop
-measure-Inv-loop levels frames index tree at q f letters₀ gaps₀ left₀ next₀ pos₀ letters gaps left next pos =
-    ((M : Table) (t : Tree) → Stands frames index tree at levels M t → Going frames tree at (levels - 1) q M t letters gaps left next pos)
+measure-Inv-loop levels frames index tree at q f letters₀ left₀ next₀ pos₀ letters left next pos =
+    ((M : Table) (t : Tree) → Stands frames index tree at levels M t → Going frames tree at (levels - 1) q M t letters left next pos)
     × (letters + 256 * at ≤ 256 * next)
-    × (gaps + 256 * at ≤ 256 * next)
     × (next ≤ length tree)
     × (pos + 257 * left ≤ 20000)
 
 abbrev measure-μ-loop : measure-lts.MeasureT-loop
-measure-μ-loop levels frames index tree at q f letters₀ gaps₀ left₀ next₀ pos₀ letters gaps left next pos = left
+measure-μ-loop levels frames index tree at q f letters₀ left₀ next₀ pos₀ letters left next pos = left
 
 -- The places' records at the measure t: the entry, a rule that was looked up, one that was found, the loop's test, a child that was measured.
 module _ (t : ℕ) where
@@ -88,11 +87,11 @@ module _ (t : ℕ) where
   first-there c = omega (arith, looked-start c .pre, c .before .before .before .if2 .left, eqb-false)
 
   -- The bounds of a child that was measured.
-  child-bounds : (c : Turn) (letters gaps next : ℕ) → c .measure .result ≡ Fits letters gaps next
+  child-bounds : (c : Turn) (letters next : ℕ) → c .measure .result ≡ Fits letters next
       → let x = turn-round c .loop .next in
-      (letters + 256 * x ≤ 256 * next) × (gaps + 256 * x ≤ 256 * next) × (next ≤ length (turn-start c .args .tree .now))
-  child-bounds c letters gaps next e =
-      bounded-fits (length (turn-start c .args .tree .now)) (turn-round c .loop .next) (c .measure .result) letters gaps next e (c .measure .ensures .1)
+      (letters + 256 * x ≤ 256 * next) × (next ≤ length (turn-start c .args .tree .now))
+  child-bounds c letters next e =
+      bounded-fits (length (turn-start c .args .tree .now)) (turn-round c .loop .next) (c .measure .result) letters next e (c .measure .ensures .1)
 
 measure-returns : (t : ℕ) → measure-lts.Need-returns (K t) (measure-at t) measure.Post measure-Inv-loop measure-μ-loop
 measure-returns t c = (λ M t′ h. absurd (⊎-elim (λ w. no-level t′ _ (w .taken) (h .levels)) (λ w. no-byte t′ h (le-of-eq (sym (eqb-true _ _ (w .1 .taken))))) (c .if1 .came)), c .before .before .before .before .pre .1 .0)
@@ -137,7 +136,6 @@ measure-loop-holds t c =
     let b = tame-found (k .rule-of .result) p e (k .rule-of .ensures .1) in (
       λ M t′ h. going-first t′ (a .q) (k .before .wide .result) (k .rule-of .result) p (c .behind .result) h (k .before .wide .ensures .0) e (k .rule-of .ensures .0 (a .frames .now) M (h .opened)) (c .behind .ensures .0),
       omega (arith, b),
-      omega (arith, b),
       omega (arith, first-there t k),
       omega (arith, b, c .behind .ensures .1),
     )
@@ -167,7 +165,7 @@ measure-returns-3 t c =
     let l = turn-round t u .loop in
     let m = u .measure in
     let p = c .enum-told2 .given .0 .0 in (
-      λ M t′ h. going-lost h (a .levels - 1) (a .q) (l .letters) (l .gaps) (l .left) (l .next) (l .pos) (l .inv .0 M t′ h) (u .before .before .before .loop-test .taken)
+      λ M t′ h. going-lost h (a .levels - 1) (a .q) (l .letters) (l .left) (l .next) (l .pos) (l .inv .0 M t′ h) (u .before .before .before .loop-test .taken)
           (u .before .wide2 .result) (u .before .wide2 .ensures .0 ∙ u .before .before .byte .ensures) (m .result) (m .ensures .0 M) p (c .enum-told2 .given .1),
       bounded-lacks (length (a .tree .now)) (l .next) (a .at) (m .result) p (c .enum-told2 .given .1) (m .ensures .1),
     )
@@ -176,13 +174,7 @@ measure-add-letters : (t : ℕ) → measure-lts.Need-add-letters (K t) (measure-
 measure-add-letters t c =
     let u = c .before .before .before in
     let v = c .before .below .given .0 in
-    omega (arith, child-bounds t u (v .0) (v .1 .0) (v .1 .1 .0) (c .before .below .given .1), turn-round t u .loop .inv, turn-start t u .pre)
-
-measure-add-gaps : (t : ℕ) → measure-lts.Need-add-gaps (K t) (measure-at t) measure.Post measure-Inv-loop measure-μ-loop
-measure-add-gaps t c =
-    let u = c .before .before .before in
-    let v = c .before .below .given .0 in
-    omega (arith, child-bounds t u (v .0) (v .1 .0) (v .1 .1 .0) (c .before .below .given .1), turn-round t u .loop .inv, turn-start t u .pre)
+    omega (arith, child-bounds t u (v .0) (v .1 .0) (c .before .below .given .1), turn-round t u .loop .inv, turn-start t u .pre)
 
 measure-add-behind : (t : ℕ) → measure-lts.Need-add-behind (K t) (measure-at t) measure.Post measure-Inv-loop measure-μ-loop
 measure-add-behind t c = search needs
@@ -205,12 +197,11 @@ measure-loop-again t c =
     let due = u .before .before .before .loop-test .taken in
     let v = c .before .before .below .given .0 in
     let e = c .before .before .below .given .1 in
-    let b = child-bounds t u (v .0) (v .1 .0) (v .1 .1 .0) e in (
-      λ M t′ h. going-next h (a .levels - 1) (a .q) (l .letters) (l .gaps) (l .left) (l .next) (l .pos) (l .inv .0 M t′ h) due
-          (u .before .wide2 .result) (u .before .wide2 .ensures .0 ∙ u .before .before .byte .ensures) (m .result) (m .ensures .0 M) (v .0) (v .1 .0) (v .1 .1 .0) (c .behind2 .result) e (c .behind2 .ensures .0),
+    let b = child-bounds t u (v .0) (v .1 .0) e in (
+      λ M t′ h. going-next h (a .levels - 1) (a .q) (l .letters) (l .left) (l .next) (l .pos) (l .inv .0 M t′ h) due
+          (u .before .wide2 .result) (u .before .wide2 .ensures .0 ∙ u .before .before .byte .ensures) (m .result) (m .ensures .0 M) (v .0) (v .1 .0) (c .behind2 .result) e (c .behind2 .ensures .0),
       omega (arith, b, l .inv),
-      omega (arith, b, l .inv),
-      b .2,
+      b .1,
       omega (arith, l .inv, c .behind2 .ensures .1, due),
     )
 
@@ -218,8 +209,8 @@ measure-returns-4 : (t : ℕ) → measure-lts.Need-returns-4 (K t) (measure-at t
 measure-returns-4 t c =
     let a = round-start t (c .before) .args in
     let l = c .before .loop in (
-      λ M t′ h. going-last h (a .levels - 1) (a .q) (l .letters) (l .gaps) (l .left) (l .next) (l .pos) (l .inv .0 M t′ h) (c .loop-test .left),
-      (l .inv .1, l .inv .2, l .inv .3),
+      λ M t′ h. going-last h (a .levels - 1) (a .q) (l .letters) (l .left) (l .next) (l .pos) (l .inv .0 M t′ h) (c .loop-test .left),
+      (l .inv .1, l .inv .2),
     )
 
 pub +measure-spec : {M : Type 1} → statement M
@@ -246,7 +237,6 @@ pub +measure-spec : {M : Type 1} → statement M
     (measure-enum-told-2 t)
     (measure-returns-3 t)
     (measure-add-letters t)
-    (measure-add-gaps t)
     (measure-add-behind t)
     (measure-behind-requires-2 t)
     (measure-sub-left t)

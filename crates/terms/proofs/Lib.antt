@@ -1,0 +1,2 @@
+-- Laws of counting letters 20 piece by piece.
+pub mod Spaces
