@@ -16,8 +16,8 @@ use Rattle.layout.specs.declared.Refusal.{Refusal}
 use Rattle.table.specs.Opening.{Opens}
 use Rattle.table.specs.declared.Opening.{Opening}
 use Rattle.table.specs.declared.Opening.the-variants as opening
-use Rattle.finder.specs.declared.Found.{Found}
-use Rattle.finder.specs.declared.Found.the-variants as found
+use Rattle.finder.specs.declared.WordAnswer.{WordAnswer}
+use Rattle.finder.specs.declared.WordAnswer.the-variants as found
 use Rattle.finder.specs.Answer.{Answers}
 use Rattle.finder.proofs.Said.{refused-said}
 use Rattle.fadurinko.specs.Answers.{refusalOf}
@@ -33,7 +33,7 @@ opens-yes F I (given M) head h = (M, refl, h .0, h .1)
 opens-yes F I (refused n p) head h = absurd h
 
 -- A text that is refused gives its refusal.
-pub text-answers : {r : Found} (F I text tree R : List ℕ) (o : Opening) (q : Refusal) → Opens F I (readTable text) o → o ≡ opening.Refused q → r ≡ refusalOf o
+pub text-answers : {r : WordAnswer} (F I text tree R : List ℕ) (o : Opening) (q : Refusal) → Opens F I (readTable text) o → o ≡ opening.Refused q → r ≡ refusalOf o
     → Answers (wordAnswer text tree (length R)) R R r
 unfolding wordAnswer
 text-answers F I text tree R o q h e er =
@@ -41,7 +41,7 @@ text-answers F I text tree R o q h e er =
     refused-said R (q .number) (q .place) (ap (λ (a : Reply Table). into (length R) (a then λ M. wordOn M tree)) n) (er ∙ ap refusalOf e)
 
 -- A text that is a table gives the word by the opened table.
-pub table-answers : {r : Found} (F I text tree R R′ : List ℕ) (o : Opening) (head : Head) → Opens F I (readTable text) o → o ≡ opening.Table head
+pub table-answers : {r : WordAnswer} (F I text tree R R′ : List ℕ) (o : Opening) (head : Head) → Opens F I (readTable text) o → o ≡ opening.Table head
     → ((M : Table) → Opened F I M → head ≡ headOf M → Answers (wordInto M tree (length R)) R R′ r)
     → Answers (wordAnswer text tree (length R)) R R′ r
 unfolding wordAnswer wordInto

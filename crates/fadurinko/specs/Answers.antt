@@ -4,8 +4,8 @@ use Prim.Native.Nat.{ℕ}
 use Rattle.promises.specs.Comparison as paper
 use Rattle.table.specs.declared.Opening.{Opening}
 use Rattle.table.specs.declared.Opening.the-variants as opening
-use Rattle.finder.specs.declared.Found.{Found}
-use Rattle.finder.specs.declared.Found.the-variants as found
+use Rattle.finder.specs.declared.WordAnswer.{WordAnswer}
+use Rattle.finder.specs.declared.WordAnswer.the-variants as found
 use Rattle.former.specs.declared.Formed.{Formed}
 use Rattle.former.specs.declared.Formed.the-variants as formed
 use Rattle.fadurinko.specs.declared.Compared.{Compared}
@@ -25,7 +25,7 @@ partingOf (parted.At i) = some i
 partingOf parted.Nowhere = none
 
 -- A text's refusal as the word call hands it on; what stands for an opened table is never used.
-abbrev pub refusalOf : Opening → Found
+abbrev pub refusalOf : Opening → WordAnswer
 refusalOf (opening.Table head) = found.Refused (record { number = 0; place = 0 })
 refusalOf (opening.Refused r) = found.Refused r
 

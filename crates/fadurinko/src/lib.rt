@@ -1,6 +1,6 @@
 // The public calls on texts: word, judge, form and compare. None asks anything of its inputs; each
 // settles number, place, counts and every byte of the room.
-use finder::Found;
+use finder::WordAnswer;
 use former::Formed;
 use former::Judged;
 use layout::Refusal;
@@ -33,21 +33,21 @@ pub enum Parted {
 }
 
 // The refusal of a text, handed on.
-fn refused(opening: Opening) -> Found
+fn refused(opening: Opening) -> WordAnswer
     ensures { λ r. ⌜ r ≡ refusalOf opening ⌝ }
 {
     match opening {
-        Opening::Table(_) => Found::Refused(Refusal {
+        Opening::Table(_) => WordAnswer::Refused(Refusal {
             number: 0,
             place: 0,
         }),
-        Opening::Refused(refusal) => Found::Refused(refusal),
+        Opening::Refused(refusal) => WordAnswer::Refused(refusal),
     }
 }
 
 // The word of a tree under a table text, written to the front of the room; or the refusal, and the
 // room as it was.
-pub fn word(text: &[u8], tree: &[u8], room: &mut [u8]) -> Found
+pub fn word(text: &[u8], tree: &[u8], room: &mut [u8]) -> WordAnswer
     ensures { λ r. ⌜ word.Answers (wordAnswer (now (text .entry)) (now (tree .entry)) (length (now (room .entry)))) (now (room .entry)) (now (room .exit)) r ⌝ }
 {
     let mut frames = [0u8; 16448];

@@ -17,7 +17,7 @@ use Rattle.layout.specs.declared.Refusal.{Refusal}
 use Rattle.table.specs.Opening.{Opens, Unchanged}
 use Rattle.table.specs.declared.Opening.{Opening}
 use Rattle.table.specs.declared.Opening.the-variants as opening
-use Rattle.finder.specs.declared.Found.{Found}
+use Rattle.finder.specs.declared.WordAnswer.{WordAnswer}
 use Rattle.finder.specs.Answer as word
 use Rattle.former.specs.declared.Formed.{Formed}
 use Rattle.former.specs.Formed as form
@@ -37,7 +37,7 @@ further-mapped f count (given a) = refl
 further-mapped f count (refused n p) = refl
 
 -- The word call hands out what its definition answers.
-pub word-linked : {a : Reply Word} {R R′ : List ℕ} {f : Found} {n i j : ℕ} → word.Answers a R R′ f → n ≡ numberOf (word.said f)
+pub word-linked : {a : Reply Word} {R R′ : List ℕ} {f : WordAnswer} {n i j : ℕ} → word.Answers a R R′ f → n ≡ numberOf (word.said f)
     → i ≡ firstOf (λ (l : Letters). l .length) (word.said f) → j ≡ furtherOf (λ (l : Letters). l .terms) (word.said f) → WordLinked a R R′ n i j
 word-linked {a} h en ei ej =
     record {

@@ -1,7 +1,7 @@
 // The public calls as C and Rust link them. The number is returned, 0 for a yes; what else an answer
 // holds goes through the last references: of a no its place, and 0 where only a yes has a count.
 use fadurinko::Compared;
-use finder::Found;
+use finder::WordAnswer;
 use former::Formed;
 use former::Judged;
 use layout::Head;
@@ -22,32 +22,32 @@ ghost use Rattle.finder.specs.Answer.{said};
 ghost use Rattle.fadurinko_c.specs.Linked.{numberOf, firstOf, furtherOf, numbersOf, fewer, headFrom, WordLinked, FormLinked, JudgedLinked, ComparedLinked, OpenLinked};
 
 // The number of the refusal, or 0.
-fn number_of(found: Found) -> u8
+fn number_of(found: WordAnswer) -> u8
     ensures { λ r. ⌜ r ≡ numberOf (said found) ⌝ }
 {
     match found {
-        Found::Word(_) => 0,
-        Found::Refused(refusal) => refusal.number,
+        WordAnswer::Found(_) => 0,
+        WordAnswer::Refused(refusal) => refusal.number,
     }
 }
 
 // The length of the word, or the place of the refusal.
-fn count_of(found: Found) -> usize
+fn count_of(found: WordAnswer) -> usize
     ensures { λ r. ⌜ r ≡ firstOf (λ (l : Letters). l .length) (said found) ⌝ }
 {
     match found {
-        Found::Word(letters) => letters.length,
-        Found::Refused(refusal) => refusal.place,
+        WordAnswer::Found(letters) => letters.length,
+        WordAnswer::Refused(refusal) => refusal.place,
     }
 }
 
 // The word's number of terms, or 0.
-fn terms_of(found: Found) -> usize
+fn terms_of(found: WordAnswer) -> usize
     ensures { λ r. ⌜ r ≡ furtherOf (λ (l : Letters). l .terms) (said found) ⌝ }
 {
     match found {
-        Found::Word(letters) => letters.terms,
-        Found::Refused(_) => 0,
+        WordAnswer::Found(letters) => letters.terms,
+        WordAnswer::Refused(_) => 0,
     }
 }
 

@@ -16,8 +16,8 @@ use Rattle.layout.specs.declared.Head.{Head}
 use Rattle.layout.proofs.Heads.{before-word, after-word}
 use Rattle.walk.specs.Walked.{Stands, Written}
 use Rattle.walk.specs.declared.Step.{Step}
-use Rattle.finder.specs.declared.Found.{Found}
-use Rattle.finder.specs.declared.Found.the-variants as found
+use Rattle.finder.specs.declared.WordAnswer.{WordAnswer}
+use Rattle.finder.specs.declared.WordAnswer.the-variants as found
 use Rattle.finder.specs.Answer.{Answers}
 use Rattle.finder.proofs.Said.{short-said, word-said}
 use Rattle.finder.proofs.Filled.{three-filled}
@@ -49,24 +49,24 @@ module _ {F I S : List ℕ} {head : Head} {letters : ℕ} {u v : Word} {M : Tabl
   output-long = simp length-append (omega (arith, b .long))
 
   -- A room that is too short is refused with the length of the three.
-  pub between-short : {r : Found} (R : List ℕ) → length R < length u + letters + length v
+  pub between-short : {r : WordAnswer} (R : List ℕ) → length R < length u + letters + length v
       → r ≡ found.Refused (record { number = 12; place = length u + letters + length v })
       → Answers (into (length R) (given (M .before ++ w ++ M .after))) R R r
   between-short R h e = rw (← output-is) (short-said R (u ++ w ++ v) (length u + letters + length v) output-long h e)
 
   -- A room that is long enough and has the three in front is answered with their letters and terms.
-  pub between-filled : {r : Found} (R R′ : List ℕ) (n : ℕ) → length u + letters + length v ≤ length R → n ≡ terms (take (length u + letters + length v) R′)
-      → r ≡ found.Word (record { length = length u + letters + length v; terms = n }) → R′ ≡ u ++ w ++ v ++ drop (length (u ++ w ++ v)) R
+  pub between-filled : {r : WordAnswer} (R R′ : List ℕ) (n : ℕ) → length u + letters + length v ≤ length R → n ≡ terms (take (length u + letters + length v) R′)
+      → r ≡ found.Found (record { length = length u + letters + length v; terms = n }) → R′ ≡ u ++ w ++ v ++ drop (length (u ++ w ++ v)) R
       → Answers (into (length R) (given (M .before ++ w ++ M .after))) R R′ r
   between-filled R R′ n h en er e = rw (← output-is) (word-said R R′ (u ++ w ++ v) (length u + letters + length v) n output-long en h er e)
 
   -- In a room that is long enough, u is put at its front, the tree's word written to the front of the part behind it, and v put behind that.
-  pub between-fits : {r : Found} {s : Step} (R R₁ R₂ ys : List ℕ) (from n : ℕ) → length u + letters + length v ≤ length R → length R₁ ≡ length R
+  pub between-fits : {r : WordAnswer} {s : Step} (R R₁ R₂ ys : List ℕ) (from n : ℕ) → length u + letters + length v ≤ length R → length R₁ ≡ length R
       → R₁ ≡ take 0 R ++ u ++ drop (0 + length u) R → from ≡ 0 + length u
       → ((M : Table) (t : Tree) (w : Word) → Stands F I S 0 64 M t → word M (head .start) t ≡ some w → length w ≤ length (take (length R₁ - from) (drop from R₁))
       → Written w 0 (length (preorder t)) (take (length R₁ - from) (drop from R₁)) ys s)
       → (let P = putMid from (length R₁ - from) R₁ ys in R₂ ≡ take (from + letters) P ++ v ++ drop (from + letters + length v) P)
-      → n ≡ terms (take (length u + letters + length v) R₂) → r ≡ found.Word (record { length = length u + letters + length v; terms = n })
+      → n ≡ terms (take (length u + letters + length v) R₂) → r ≡ found.Found (record { length = length u + letters + length v; terms = n })
       → Answers (into (length R) (given (M .before ++ w ++ M .after))) R R₂ r
   between-fits R R₁ R₂ ys from n h k e₁ ef wrote e₂ en er =
       let x : word M (head .start) t ≡ some w = ap (λ (h : Head). word M (h .start) t) (b .is) ∙ b .says in

@@ -24,8 +24,8 @@ use Rattle.shape.proofs.Symbols.{opened-arities}
 use Rattle.walk.specs.declared.Size.{Size}
 use Rattle.walk.specs.declared.Size.the-variants as size
 use Rattle.walk.specs.Walked.{Stands, Measured}
-use Rattle.finder.specs.declared.Found.{Found}
-use Rattle.finder.specs.declared.Found.the-variants as found
+use Rattle.finder.specs.declared.WordAnswer.{WordAnswer}
+use Rattle.finder.specs.declared.WordAnswer.the-variants as found
 use Rattle.finder.specs.Answer.{Answers, shapeRefusal, lackingAt}
 use Rattle.finder.proofs.Said.{refused-said}
 use Rattle.finder.proofs.Read.{ends-given, shape-no, into-no, read-stands, into-lacking, into-word}
@@ -53,7 +53,7 @@ module _ {F I S : List ℕ} {head : Head} {M : Table} {s : Shape} (c : Shown F I
   own-shape = c .checked (M .arities) (subst⁻¹ (λ (h : Head). Arities F (h .symbols) (M .arities)) (c .is) (opened-arities (c .opened)))
 
   -- A shape that is refused is the answer, handed on.
-  pub shape-answers : {r : Found} {r′ : Refusal} (R : List ℕ) → s ≡ shape.Refused r′ → r ≡ shapeRefusal s → Answers (wordInto M S (length R)) R R r
+  pub shape-answers : {r : WordAnswer} {r′ : Refusal} (R : List ℕ) → s ≡ shape.Refused r′ → r ≡ shapeRefusal s → Answers (wordInto M S (length R)) R R r
   shape-answers {r} {r′} R es er =
       let i = shape-no (readTree (M .arities) S) r′ (subst (λ (x : Shape). Checked (readTree (M .arities) S) x) es own-shape) in
       refused-said R (r′ .number) (r′ .place) (into-no M S (length R) (r′ .number) (r′ .place) i) (er ∙ ap shapeRefusal es)
@@ -81,7 +81,7 @@ module _ {F I S : List ℕ} {head : Head} {M : Table} {s : Shape} (c : Shown F I
           (subst (λ (h : Head). Measured 0 (length (preorder t)) (word M (h .start) t) (lacks M (h .start) t 0) z) (c .is) (measured M t shape-stands))
 
       -- A tree that lacks a rule is refused with 9 at the first place that does.
-      pub lacking-answers : {r : Found} (R : List ℕ) (q : ℕ) → z ≡ size.Lacks q → r ≡ found.Refused (record { number = 9; place = lackingAt z })
+      pub lacking-answers : {r : WordAnswer} (R : List ℕ) (q : ℕ) → z ≡ size.Lacks q → r ≡ found.Refused (record { number = 9; place = lackingAt z })
           → Answers (wordInto M S (length R)) R R r
       lacking-answers R q ez er =
           let t = shape-tree .0 in
@@ -90,7 +90,7 @@ module _ {F I S : List ℕ} {head : Head} {M : Table} {s : Shape} (c : Shown F I
           (er ∙ ap (λ (x : Size). found.Refused (record { number = 9; place = lackingAt x })) ez)
 
       -- A tree that was measured is answered as its word is written.
-      pub word-answers : {r : Found} (R R′ : List ℕ) (letters next : ℕ) → z ≡ size.Fits letters next
+      pub word-answers : {r : WordAnswer} (R R′ : List ℕ) (letters next : ℕ) → z ≡ size.Fits letters next
           → ((M : Table) (t : Tree) (w : Word) → Stands F I S 0 64 M t → head ≡ headOf M → word M (M .start) t ≡ some w → letters ≡ length w
           → Answers (into (length R) (given (M .before ++ w ++ M .after))) R R′ r)
           → Answers (wordInto M S (length R)) R R′ r

@@ -10,21 +10,21 @@ use Rattle.shape.specs.declared.Shape.{Shape}
 use Rattle.shape.specs.declared.Shape.the-variants as shape
 use Rattle.walk.specs.declared.Size.{Size}
 use Rattle.walk.specs.declared.Size.the-variants as size
-use Rattle.finder.specs.declared.Found.{Found}
-use Rattle.finder.specs.declared.Found.the-variants as found
+use Rattle.finder.specs.declared.WordAnswer.{WordAnswer}
+use Rattle.finder.specs.declared.WordAnswer.the-variants as found
 
 -- The paper's answer for each case.
-abbrev pub said : Found → Reply Letters
-said (found.Word letters) = given (record { length = letters .length; terms = letters .terms })
+abbrev pub said : WordAnswer → Reply Letters
+said (found.Found letters) = given (record { length = letters .length; terms = letters .terms })
 said (found.Refused r) = refused (r .number) (r .place)
 
 -- The answer and the room after it are those of an answer a of the definition: a word's length and terms, its letters first in the room; a refusal, and the room as it was.
-pub record Answers (a : Reply Word) (R R′ : List ℕ) (r : Found) : Type 0 where
+pub record Answers (a : Reply Word) (R R′ : List ℕ) (r : WordAnswer) : Type 0 where
   pub answer : said r ≡ mapped lettersOf a
   pub room : R′ ≡ filled R a
 
 -- The refusal of a shape, and the first position without a rule of a measure, as the code hands them on.
-abbrev pub shapeRefusal : Shape → Found
+abbrev pub shapeRefusal : Shape → WordAnswer
 shapeRefusal (shape.Ends p) = found.Refused (record { number = 0; place = p })
 shapeRefusal (shape.Refused r) = found.Refused r
 

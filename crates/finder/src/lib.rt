@@ -26,24 +26,24 @@ pub struct Letters {
 }
 
 // The word's record, or the refusal.
-pub enum Found {
-    Word(Letters),
+pub enum WordAnswer {
+    Found(Letters),
     Refused(Refusal),
 }
 
-fn refuse(number: u8, place: usize) -> Found
-    ensures { λ r. ⌜ r ≡ Found.Refused (record { number = number; place = place }) ⌝ }
+fn refuse(number: u8, place: usize) -> WordAnswer
+    ensures { λ r. ⌜ r ≡ WordAnswer.Refused (record { number = number; place = place }) ⌝ }
 {
-    Found::Refused(Refusal { number, place })
+    WordAnswer::Refused(Refusal { number, place })
 }
 
 // The refusal of a tree's shape, handed on.
-fn shape_refusal(shape: Shape) -> Found
+fn shape_refusal(shape: Shape) -> WordAnswer
     ensures { λ r. ⌜ r ≡ shapeRefusal shape ⌝ }
 {
     match shape {
         Shape::Ends(place) => refuse(0, place),
-        Shape::Refused(refusal) => Found::Refused(refusal),
+        Shape::Refused(refusal) => WordAnswer::Refused(refusal),
     }
 }
 
@@ -69,7 +69,7 @@ fn write(
     tree: &[u8],
     letters: usize,
     room: &mut [u8],
-) -> Found
+) -> WordAnswer
     requires { ⌜ letters ≤ 8388608 ⌝ }
     ensures { λ r. ⌜ ((M : Table) (t : Tree) (w : Word) → Stands (now (frames .entry)) (now (index .entry)) (now (tree .entry)) 0 64 M t → head ≡ headOf M
         → word M (M .start) t ≡ some w → letters ≡ length w
@@ -85,12 +85,12 @@ fn write(
     walk::eval(64, frames, index, tree, 0, head.start, &mut room[from..]);
     walk::put(after, room, from + letters);
     let terms = terms::terms_in(room, length);
-    Found::Word(Letters { length, terms })
+    WordAnswer::Found(Letters { length, terms })
 }
 
 // The word of a tree by an opened table, written to the front of the room: 6, 7, 8, 10, 11 for the
 // tree's shape, 9 for the first position without a rule, 12 for a room that is too short.
-pub fn find(frames: &[u8], index: &[u64], head: Head, tree: &[u8], room: &mut [u8]) -> Found
+pub fn find(frames: &[u8], index: &[u64], head: Head, tree: &[u8], room: &mut [u8]) -> WordAnswer
     ensures { λ r. ⌜ ((M : Table) → Opened (now (frames .entry)) (now (index .entry)) M → head ≡ headOf M
         → Answers (wordInto M (now (tree .entry)) (length (now (room .entry)))) (now (room .entry)) (now (room .exit)) r) ⌝ }
 {

@@ -22,8 +22,8 @@ use Rattle.layout.specs.Leaves.{headOf}
 use Rattle.layout.specs.declared.Head.{Head}
 use Rattle.layout.specs.declared.Refusal.{Refusal}
 use Rattle.finder.specs.Answer.{said, Answers}
-use Rattle.finder.specs.declared.Found.{Found}
-use Rattle.finder.specs.declared.Found.the-variants as found
+use Rattle.finder.specs.declared.WordAnswer.{WordAnswer}
+use Rattle.finder.specs.declared.WordAnswer.the-variants as found
 use Rattle.finder.specs.declared.Letters.{Letters}
 use Rattle.table.specs.Opening.{Opens}
 use Rattle.table.specs.declared.Opening.{Opening}
@@ -37,7 +37,7 @@ use Rattle.respond.specs.Response.{answerLine, countedAt, Responds, notH
 use Rattle.respond.specs.declared.Said.{Said}
 
 -- A word that was found: its line is that of its letters in the room.
-pub word-responds : (a : Reply Word) (R R′ O O′ v : List ℕ) (f : Found) (l : Letters) (u k : ℕ) → f ≡ found.Word l → Answers a R R′ f
+pub word-responds : (a : Reply Word) (R R′ O O′ v : List ℕ) (f : WordAnswer) (l : Letters) (u k : ℕ) → f ≡ found.Found l → Answers a R R′ f
     → v ≡ take (l .length) R′ → Queued (wordLine (l .terms) v) O u O′ k → Responds a O u O′ (record { used = k; counted = 0 })
 word-responds (given w) R R′ O O′ v f l u k i h d q =
     let g = given-injective _ _ (sym (ap said i) ∙ h .answer) in
@@ -48,7 +48,7 @@ word-responds (given w) R R′ O O′ v f l u k i h d q =
 word-responds (refused n p) R R′ O O′ v f l u k i h d q = absurd (given-refused _ n p (sym (ap said i) ∙ h .answer))
 
 -- A refusal of the word call.
-pub refusal-responds : (a : Reply Word) (R R′ O O′ : List ℕ) (f : Found) (e : Refusal) (u : ℕ) (r : Said) → f ≡ found.Refused e → Answers a R R′ f
+pub refusal-responds : (a : Reply Word) (R R′ O O′ : List ℕ) (f : WordAnswer) (e : Refusal) (u : ℕ) (r : Said) → f ≡ found.Refused e → Answers a R R′ f
     → Responds (refused (e .number) (e .place)) O u O′ r → Responds a O u O′ r
 refusal-responds (given w) R R′ O O′ f e u r i h q = absurd (given-refused _ (e .number) (e .place) (sym (h .answer) ∙ ap said i))
 refusal-responds (refused n p) R R′ O O′ f e u r i h q =

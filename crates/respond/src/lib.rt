@@ -2,7 +2,7 @@
 // refusal, or that the line is not hexadecimal.
 mod piece;
 
-use finder::Found;
+use finder::WordAnswer;
 use hexline::SoFar;
 use layout::Head;
 use layout::Refusal;
@@ -60,12 +60,12 @@ fn to_tree(
         → Responds (wordInto M (now (tree .entry)) (length (now (room .entry)))) (now (out .entry)) used (now (out .exit)) r) ⌝ }
 {
     match swift::find(frames, index, head, tree, plan, room) {
-        Found::Word(found) => {
+        WordAnswer::Found(found) => {
             let letters = output::front(room, found.length);
             let used = answers::put_word(found.terms, letters, out, used);
             Said { used, counted: 0 }
         }
-        Found::Refused(refusal) => refused(refusal, out, used),
+        WordAnswer::Refused(refusal) => refused(refusal, out, used),
     }
 }
 

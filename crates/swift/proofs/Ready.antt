@@ -18,8 +18,8 @@ use Rattle.tally.specs.declared.Tally.{Tally}
 use Rattle.tally.specs.declared.Tally.the-variants as tally
 use Rattle.tally.specs.Tallied.{Counted, Tallied}
 use Rattle.pen.specs.Penned.{Due}
-use Rattle.finder.specs.declared.Found.{Found}
-use Rattle.finder.specs.declared.Found.the-variants as found
+use Rattle.finder.specs.declared.WordAnswer.{WordAnswer}
+use Rattle.finder.specs.declared.WordAnswer.the-variants as found
 use Rattle.finder.specs.Answer.{Answers}
 use Rattle.finder.proofs.Between.{Between, between-short, between-filled}
 use Rattle.finder.proofs.Read.{into-word}
@@ -54,7 +54,7 @@ module _ {F I S P : List ℕ} {head : Head} {letters : ℕ} {u v : Word} {M : Ta
       }
 
   -- The definition's answer is that for the three words.
-  ready-answer : {r : Found} (R R′ : List ℕ) → Answers (into (length R) (given (M .before ++ b .counted .letters-of ++ M .after))) R R′ r
+  ready-answer : {r : WordAnswer} (R R′ : List ℕ) → Answers (into (length R) (given (M .before ++ b .counted .letters-of ++ M .after))) R R′ r
       → Answers (wordInto M S (length R)) R R′ r
   ready-answer {r} R R′ a =
       let k = b .counted in
@@ -62,7 +62,7 @@ module _ {F I S P : List ℕ} {head : Head} {letters : ℕ} {u v : Word} {M : Ta
       subst⁻¹ (λ (x : Reply Word). Answers x R R′ r) (into-word M S (length R) (k .tree) e (k .letters-of) (k .is)) a
 
   -- A room that is too short is refused with the length of the three.
-  pub ready-short : {r : Found} (R : List ℕ) → length R < length u + letters + length v
+  pub ready-short : {r : WordAnswer} (R : List ℕ) → length R < length u + letters + length v
       → r ≡ found.Refused (record { number = 12; place = length u + letters + length v }) → Answers (wordInto M S (length R)) R R r
   ready-short R h e = ready-answer R R (between-short ready-between R h e)
 
@@ -81,11 +81,11 @@ module _ {F I S P : List ℕ} {head : Head} {letters : ℕ} {u v : Word} {M : Ta
       }
 
   -- In a room that is long enough, u is put at its front, the tree's word behind it, and v behind that.
-  pub ready-fits : {r : Found} (R R₁ R₂ R₃ : List ℕ) (from n : ℕ) → length u + letters + length v ≤ length R
+  pub ready-fits : {r : WordAnswer} (R R₁ R₂ R₃ : List ℕ) (from n : ℕ) → length u + letters + length v ≤ length R
       → R₁ ≡ take 0 R ++ u ++ drop (0 + length u) R → from ≡ 0 + length u
       → ((M : Table) (q : ℕ) (t : Tree) (w : Word) → Due F P 0 64 letters M q t w → letters ≡ length w → R₂ ≡ take from R₁ ++ w ++ drop (from + letters) R₁)
       → R₃ ≡ take (from + letters) R₂ ++ v ++ drop (from + letters + length v) R₂
-      → n ≡ terms (take (length u + letters + length v) R₃) → r ≡ found.Word (record { length = length u + letters + length v; terms = n })
+      → n ≡ terms (take (length u + letters + length v) R₃) → r ≡ found.Found (record { length = length u + letters + length v; terms = n })
       → Answers (wordInto M S (length R)) R R₃ r
   ready-fits R R₁ R₂ R₃ from n h e₁ ef wrote e₃ en er =
       let k = b .counted in

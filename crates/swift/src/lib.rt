@@ -1,7 +1,7 @@
 // The word call on an opened table, fast: one measuring loop that leaves a plan, and the writing
 // pass by the plan. Anything unusual goes to the finder, which tells number and place.
-use finder::Found;
 use finder::Letters;
+use finder::WordAnswer;
 use layout::Head;
 use layout::Refusal;
 use tally::Tally;
@@ -59,7 +59,7 @@ fn write(
     plan: &[u32; 32768],
     letters: usize,
     room: &mut [u8],
-) -> Found
+) -> WordAnswer
     requires { ⌜ letters ≤ 8388608 ⌝ }
     ensures { λ r. ⌜ ((I S : List ℕ) (M : Table) → Opened (now (frames .entry)) I M → head ≡ headOf M
         → Counted (now (frames .entry)) S (now (plan .entry)) M (M .start) letters
@@ -70,7 +70,7 @@ fn write(
     let after = layout::stretch(bytes, head.after);
     let length = before.len() + letters + after.len();
     if room.len() < length {
-        return Found::Refused(Refusal {
+        return WordAnswer::Refused(Refusal {
             number: 12,
             place: length,
         });
@@ -80,7 +80,7 @@ fn write(
     let end = from + letters;
     walk::put(after, room, end);
     let terms = terms::terms_in(room, length);
-    Found::Word(Letters { length, terms })
+    WordAnswer::Found(Letters { length, terms })
 }
 
 // The word of a tree by an opened table, written to the front of the room, or the refusal.
@@ -91,7 +91,7 @@ pub fn find(
     tree: &[u8],
     plan: &mut [u32; 32768],
     room: &mut [u8],
-) -> Found
+) -> WordAnswer
     ensures { λ r. ⌜ ((M : Table) → Opened (now (frames .entry)) (now (index .entry)) M → head ≡ headOf M
         → Answers (wordInto M (now (tree .entry)) (length (now (room .entry)))) (now (room .entry)) (now (room .exit)) r) ⌝ }
 {

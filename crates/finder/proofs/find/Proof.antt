@@ -5,7 +5,7 @@ use native.Mathlib.Omega.{arith}
 use lib.ListN.{length}
 use Rattle.walk.specs.declared.Size.the-variants as size
 use Rattle.walk.specs.Walked.{Bounded}
-use Rattle.finder.specs.declared.Found.the-variants as found
+use Rattle.finder.specs.declared.WordAnswer.the-variants as found
 use Rattle.finder.proofs.Calls.{shape-answers, shape-small, lacking-answers, word-answers}
 use borrow.Author.Needs.{needs}
 use Rattle.finder.proofs.find.Statement.{statement}
