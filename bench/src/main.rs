@@ -1,6 +1,7 @@
 //! `bench` prints what each task takes and its ratios; `bench times` prints the medians for the run
 //! script, `bench counted` does each piece of work once for an instruction counter, `bench counts`
-//! prints sweeps and row comparisons; `bench TASK HAND COUNT` does one piece of work COUNT times.
+//! prints sweeps and row comparisons, `bench agree` only compares all hands' answers;
+//! `bench TASK HAND COUNT` does one piece of work COUNT times.
 
 mod best;
 mod compare;
@@ -110,6 +111,8 @@ fn main() {
         [] => table(),
         ["times"] => times(),
         ["counts"] => counts::print(),
+        // Making a task compares the hands.
+        ["agree"] => println!("{} tasks, and all hands agree", tasks().count()),
         ["counted"] => {
             want(Want::Unchecked);
             counted();
@@ -119,6 +122,6 @@ fn main() {
             repeat(name, hand, count.parse().expect("COUNT is a number"))
                 .expect("no such task or hand");
         }
-        _ => eprintln!("usage: bench [times | counted | counts | TASK HAND COUNT]"),
+        _ => eprintln!("usage: bench [times | counted | counts | agree | TASK HAND COUNT]"),
     }
 }

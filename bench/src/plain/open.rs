@@ -160,7 +160,7 @@ impl<'frame> Fields<'frame> {
     fn rule(&mut self, states: usize, arity: usize) -> Result<u64, u8> {
         let at = self.at as u64;
         let mut word = self.word()?;
-        let (mut letters, mut gaps, mut first, mut rest) = (word.len() as u64, spaces(word), 0, 0);
+        let (mut letters, mut first, mut rest) = (word.len() as u64, 0, 0);
         for child in 0..arity {
             let state = self.number(0, states - 1)? as u64;
             if child == 0 {
@@ -170,9 +170,8 @@ impl<'frame> Fields<'frame> {
             }
             word = self.word()?;
             letters += word.len() as u64;
-            gaps += spaces(word);
         }
-        Ok(letters | at << 8 | first << 22 | gaps << 28 | rest << 36 | (arity as u64) << 54)
+        Ok(letters | at << 8 | first << 22 | rest << 36 | (arity as u64) << 54)
     }
 
     fn finish(&self) -> Result<(), u8> {
@@ -182,10 +181,6 @@ impl<'frame> Fields<'frame> {
             Ok(())
         }
     }
-}
-
-fn spaces(word: &[u8]) -> u64 {
-    word.iter().filter(|&&letter| letter == b' ').count() as u64
 }
 
 /// Opens a text; where it is refused, with a number of no and a place, the table is as it was.

@@ -5,8 +5,8 @@
 use super::judge::{judge, No};
 use crate::proved::{Opened, ENTRIES, FRAMES};
 
-/// What the entries of two rules with the same words share: letters, spaces, number of children.
-const SHARED: u64 = 255 | 255 << 28 | 7 << 54;
+/// What the entries of two rules with the same words share: letters, number of children.
+const SHARED: u64 = 255 | 7 << 54;
 
 fn kids(entry: u64) -> usize {
     (entry >> 54) as usize & 7

@@ -28,13 +28,6 @@ fn take_line(text: &[u8], frames: &mut [u8]) -> Option<usize> {
     None
 }
 
-fn spaces(word: &[u8]) -> u64 {
-    word.iter()
-        .map(|&letter| u8::from(letter == b' '))
-        .sum::<u8>()
-        .into()
-}
-
 /// The fields of a frame that are not yet read.
 struct Fields<'frame> {
     bytes: &'frame [u8],
@@ -67,7 +60,7 @@ impl<'frame> Fields<'frame> {
     fn rule(&mut self, states: usize, arity: usize) -> Result<u64, u8> {
         let at = self.at as u64;
         let word = self.word()?;
-        let mut sums = word.len() as u64 | spaces(word) << 28;
+        let mut letters = word.len() as u64;
         let (mut first, mut rest) = (0, 0);
         for child in 0..arity {
             let state = self.below(states)? as u64;
@@ -77,9 +70,9 @@ impl<'frame> Fields<'frame> {
                 rest = rest << 6 | state
             }
             let word = self.word()?;
-            sums += word.len() as u64 | spaces(word) << 28;
+            letters += word.len() as u64;
         }
-        Ok(sums | at << 8 | first << 22 | rest << 36 | (arity as u64) << 54)
+        Ok(letters | at << 8 | first << 22 | rest << 36 | (arity as u64) << 54)
     }
 
     fn finish(&self) -> Result<(), u8> {

@@ -11,9 +11,9 @@ pub type Answer = Result<(usize, usize), (u8, usize)>;
 /// Where a child's state stands in a rule's entry, less 6: the state comes out times 64.
 const CHILDREN: [u32; 4] = [16, 30, 36, 42];
 
-/// Letters and letters 20 of a tree; none where it is no tree with a word. States are kept times
-/// 64, and in what waits there is 4,096 for each symbol above.
-fn measure(table: &Opened, tree: &[u8], plan: &mut [u32; LONGEST]) -> Option<(usize, usize)> {
+/// Letters of a tree; none where it is no tree with a word. States are kept times 64, and in what
+/// waits there is 4,096 for each symbol above.
+fn measure(table: &Opened, tree: &[u8], plan: &mut [u32; LONGEST]) -> Option<usize> {
     let mut waiting = [0u32; 256];
     waiting[0] = 64 * 4096;
     let mut top: u8 = u8::from(!tree.is_empty());
@@ -29,7 +29,7 @@ fn measure(table: &Opened, tree: &[u8], plan: &mut [u32; LONGEST]) -> Option<(us
             return None;
         }
         *slot = ((x >> 8) & 16383 | (x >> 40) & (7 << 14)) as u32;
-        sum += x & 255 | x & (255 << 28);
+        sum += x & 255;
         let deeper = level + 4096;
         let child = |n: usize| (x >> CHILDREN[n]) as u32 & 4032;
         let below = waiting[usize::from(top.wrapping_sub(1))];
@@ -41,7 +41,7 @@ fn measure(table: &Opened, tree: &[u8], plan: &mut [u32; LONGEST]) -> Option<(us
         level = if kids == 0 { below & !4095 } else { deeper };
         top = top.wrapping_add(kids).wrapping_sub(1);
     }
-    (top == 0 && !tree.is_empty()).then_some((sum as usize & ((1 << 28) - 1), (sum >> 28) as usize))
+    (top == 0 && !tree.is_empty()).then_some(sum as usize)
 }
 
 /// Puts the word at `from` into the room from `at` on, 32 bytes where the room has them, and
@@ -103,8 +103,13 @@ fn stretch(frames: &[u8; FRAMES], at: usize) -> &[u8] {
     &frames[at + 1..at + 1 + usize::from(frames[at])]
 }
 
-fn gaps(word: &[u8]) -> usize {
-    word.iter().filter(|&&letter| letter == b' ').count()
+/// The terms of a word: letters 20 are counted in a byte over pieces that are short enough.
+fn terms(word: &[u8]) -> usize {
+    let gaps = |piece: &[u8]| -> u8 { piece.iter().map(|&letter| u8::from(letter == b' ')).sum() };
+    1 + word
+        .chunks(224)
+        .map(|piece| usize::from(gaps(piece)))
+        .sum::<usize>()
 }
 
 #[inline(always)]
@@ -115,7 +120,7 @@ pub fn find_by(
     room: &mut [u8],
     write: impl FnOnce(&[u8; FRAMES], &[u32; LONGEST], &mut [u8]),
 ) -> Answer {
-    let Some((letters, spaces)) = measure(table, tree, plan) else {
+    let Some(letters) = measure(table, tree, plan) else {
         return plain::word::find(table, tree, &mut Vec::new(), room);
     };
     let before = stretch(&table.frames, table.head[3]);
@@ -129,7 +134,7 @@ pub fn find_by(
         write(&table.frames, plan, part)
     });
     room[before.len() + letters..length].copy_from_slice(after);
-    Ok((length, gaps(before) + spaces + gaps(after) + 1))
+    Ok((length, terms(&room[..length])))
 }
 
 pub fn find(table: &Opened, tree: &[u8], plan: &mut [u32; LONGEST], room: &mut [u8]) -> Answer {
