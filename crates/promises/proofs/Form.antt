@@ -1,9 +1,9 @@
 -- Exactly when a form is given, and exactly when it is refused: 12 comes last. Assumes nothing.
 use mathlib.Core.Path.{_≡_, refl, sym, subst}
-use mathlib.Core.List.{List}
+use mathlib.Core.List.{List, _++_}
 use mathlib.Core.Logic.{_⊎_, inl, inr, ⊎-elim, _↔_}
 use Prim.Native.Nat.{ℕ, _<_, _≤_}
-use lib.ListN.{length}
+use lib.ListN.{length, drop}
 use Rattle.words.specs.Reply.{given, refused}
 use Rattle.machine.specs.Machine.{Table}
 use Rattle.machine.specs.Earliest.{Earliest}
@@ -13,7 +13,7 @@ use Rattle.machine.proofs.Judged.{judged-earliest}
 use Rattle.text.specs.Reading.{readTable}
 use Rattle.text.specs.Writing.{writeTable}
 use Rattle.promises.specs.Judgement.{JudgementAnswer}
-use Rattle.promises.specs.Form.{FormText, FormAnswer}
+use Rattle.promises.specs.Form.{FormText, FormAnswer, formRoom}
 use Rattle.promises.proofs.Judgement.{judged-as, judged-from}
 use Rattle.promises.proofs.Room.{into-given, into-refused}
 
@@ -78,3 +78,7 @@ form-refused text room n p = (there, back)
       h .form,
       sym (into-refused room (given (h .out)) n p .1 (inr (record { out = h .out; there = refl; longer = h .longer; number = h .number; place = h .place }))),
     )
+
+-- After the form call the room begins with the form's text and is else as it was; after a refusal it is as it was.
+pub form-room : (room out : List ℕ) (n p : ℕ) → (formRoom room (given out) ≡ out ++ drop (length out) room) × (formRoom room (refused n p) ≡ room)
+form-room room out n p = (refl, refl)
