@@ -1,12 +1,12 @@
--- Laws of the opened table: what its bytes and its entries say of the table that they mean.
-pub mod Index
+-- Laws of the opened table: what its bytes and its numbers say of the table that they mean.
 pub mod Modest
 pub mod Unpack
 pub mod Stretches
 pub mod Fit
 pub mod Heads
 pub mod Rows
-pub mod Entries
-pub mod Lookups
+pub mod Numbered
 pub mod Means
 pub mod Growing
+pub mod Ranges
+pub mod Spots

@@ -6,12 +6,7 @@ use native.Mathlib.Omega.{arith}
 use lib.ListN.{length, getD}
 use Rattle.machine.specs.Machine.{Child, Rule, Row, Table, Each, Every, RowFits}
 use Rattle.text.specs.Writing.{AtMost, Short, ShortRow, Limited}
-
--- A rule within the limits: its words have at most 32 letters, its states are below 64, it has at most 4 children.
-pub record Modest (r : Rule) : Type 0 where
-  pub first : length (r .first) ≤ 32
-  pub rest : Each (λ c cs. (length (c .after) ≤ 32) × (c .state < 64)) (r .rest)
-  pub kids : length (r .rest) ≤ 4
+use Rattle.layout.specs.Leaves.{Modest}
 
 -- What follows of a row from two facts follows of every row from the two facts of every row.
 pub every-both : {P Q R : Row → Type 0} → ((r : Row) → P r → Q r → R r) → (rows : List Row) → Every P rows → Every Q rows → Every R rows

@@ -60,7 +60,7 @@ module _ (F : List ℕ) (p : ℕ) (r : Row) (b : List ℕ) (e : drop p F ≡ row
   row-behind = further F p (rowFrame r) b e
 
 -- The frame of the row at index i stands behind those of the rows before it, and before those of the rows after it.
-row-split : (rs : List Row) (i : ℕ) (r : Row) → getElem? rs i ≡ some r → rowFrames rs ≡ rowFrames (take i rs) ++ (rowFrame r ++ rowFrames (drop (suc i) rs))
+pub row-split : (rs : List Row) (i : ℕ) (r : Row) → getElem? rs i ≡ some r → rowFrames rs ≡ rowFrames (take i rs) ++ (rowFrame r ++ rowFrames (drop (suc i) rs))
 unfolding rowFrames
 row-split [] i r e = let z : _≡_ {A = ℕ} 0 1 = cc in absurd (omega arith)
 row-split (s ∷ rs) zero r e = let d : s ≡ r = cc in ap (λ (x : Row). rowFrame x ++ rowFrames rs) d

@@ -1,19 +1,30 @@
--- The opened table: the decoded frames one after the other, and an index with an entry for each state and symbol. Definitions only.
+-- The opened table: the decoded frames one after the other, and a list of numbers: the head, the rules by their numbers, what is kept for each state and symbol. Definitions only.
 use mathlib.Core.Path.{_≡_}
 use mathlib.Core.Bool.{true, false, _&&_}
 use mathlib.Core.List.{List, [], _∷_, _++_}
-use Prim.Native.Nat.{ℕ, zero, suc, _+_, _*_, _^_, _<_}
-use lib.Dec.{eqb}
+use Prim.Native.Nat.{ℕ, zero, suc, _+_, _*_, _^_, _<_, _≤_}
+use lib.Dec.{eqb, ltb}
 use lib.ListN.{length, getD}
 use Rattle.machine.specs.Machine.{Child, Rule, Row, Table}
+use Rattle.text.specs.Limits.{symbolsMost}
 use Rattle.text.specs.Writing.{textOf, childrenText, rowFrame, initialFrame, Limited}
 
--- How many bytes and how many entries are lent.
+-- How many bytes and how many numbers are lent.
 abbrev pub framesSize : ℕ
 framesSize = 16448
 
-abbrev pub indexSize : ℕ
-indexSize = 4096
+abbrev pub numbersSize : ℕ
+numbersSize = 4688
+
+-- Where in the numbers the states' first rules stand, the rules, and what is kept for each state and symbol; the head stands before them.
+abbrev pub firstsFrom : ℕ
+firstsFrom = 8
+
+abbrev pub rulesFrom : ℕ
+rulesFrom = 80
+
+abbrev pub gridFrom : ℕ
+gridFrom = 592
 
 -- The frames 01, two bytes each.
 unfoldable pub symbolFrames : List ℕ → List ℕ
@@ -51,39 +62,79 @@ unfoldable pub firstState : List Child → ℕ
 firstState [] = 0
 firstState (c ∷ cs) = c .state
 
--- Behind n, states one after the other in one number, six bits each, the last lowest.
+-- Behind n, states one after the other in one number, ten bits each, the last lowest.
 unfoldable pub folded : ℕ → List Child → ℕ
 folded n [] = n
-folded n (c ∷ cs) = folded (n * 64 + c .state) cs
+folded n (c ∷ cs) = folded (n * 1024 + c .state) cs
 
 -- The states of the children behind the first in one number, the last lowest.
 unfoldable pub laterStates : List Child → ℕ
 laterStates [] = 0
 laterStates (c ∷ cs) = folded 0 cs
 
--- The child states and the number of children, in one number: the first child's state from bit 22 on, the others' from bit 36 on, the number from bit 54 on.
+-- The child states and the number of children, in one number: the first child's state from bit 21 on, the others' from bit 31 on, the number from bit 61 on.
 unfoldable pub kidsPacked : List Child → ℕ
-kidsPacked cs = 2 ^ 22 * firstState cs + (2 ^ 36 * laterStates cs + 2 ^ 54 * length cs)
+kidsPacked cs = 2 ^ 21 * firstState cs + (2 ^ 31 * laterStates cs + 2 ^ 61 * length cs)
 
--- The entry of a rule whose bytes stand at p: its letters, p from bit 8 on, its children. It is never 0, since p is not.
+-- What is kept for the state and the symbol of rule number i: its letters, bit 8 to say that there is a rule, i from bit 9 on, its children.
 unfoldable pub entryOf : ℕ → Rule → ℕ
-entryOf p r = ruleLetters r + 256 * p + kidsPacked (r .rest)
+entryOf i r = ruleLetters r + 256 + 512 * i + kidsPacked (r .rest)
 
--- The entry of a state and a symbol, where the frames of the rows stand from p on: 0 if there is no rule. A rule's bytes stand behind kind, state and symbol.
+-- What is kept for a state and a symbol, where the first of the rows has number i: 0 if there is no rule.
 unfoldable pub entryIn : ℕ → List Row → ℕ → ℕ → ℕ
-entryIn p [] q f = 0
-entryIn p (r ∷ rs) q f =
-    elim (eqb (r .state) q && eqb (r .symbol) f) [ true ↦ entryOf (p + 3) (r .rule) | false ↦ entryIn (p + length (rowFrame r)) rs q f ]
+entryIn i [] q f = 0
+entryIn i (r ∷ rs) q f = elim (eqb (r .state) q && eqb (r .symbol) f) [ true ↦ entryOf i (r .rule) | false ↦ entryIn (suc i) rs q f ]
 
--- The index holds the entries of the rows, whose frames stand from p on.
-abbrev pub Indexed : List ℕ → ℕ → List Row → Type 0
-Indexed I p rows = (q f : ℕ) → q < 64 → f < 64 → getD I (q * 64 + f) 0 ≡ entryIn p rows q f
+-- What is kept of a row by its number, where its rule's bytes stand at p: p, its symbol from bit 17 on, its state from bit 23 on.
+abbrev pub rowNumber : ℕ → Row → ℕ
+rowNumber p r = p + 2 ^ 17 * r .symbol + 2 ^ 23 * r .state
 
--- What makes lent bytes F and entries I the opened table M.
+-- The same for each row, where the rows' frames stand from p on. A rule's bytes stand behind kind, state and symbol.
+unfoldable pub rowNumbers : ℕ → List Row → List ℕ
+rowNumbers p [] = []
+rowNumbers p (r ∷ rs) = rowNumber (p + 3) r ∷ rowNumbers (p + length (rowFrame r)) rs
+
+-- How many rows have a state below q: the number of the first rule of state q, if it has one.
+unfoldable pub rowsBefore : ℕ → List Row → ℕ
+rowsBefore q [] = 0
+rowsBefore q (r ∷ rs) = elim (ltb (r .state) q) [ true ↦ suc (rowsBefore q rs) | false ↦ rowsBefore q rs ]
+
+-- Where the words of the initial rule stand.
+abbrev pub beforeAt : Table → ℕ
+beforeAt M = 2 * length (M .arities) + 2
+
+abbrev pub afterAt : Table → ℕ
+afterAt M = 2 * length (M .arities) + 4 + length (M .before)
+
+-- The head of the numbers I: the table's counts, its initial state, where the words of its initial rule stand.
+pub record HeadIn (I : List ℕ) (M : Table) : Type 0 where
+  pub symbols : getD I 0 0 ≡ length (M .arities)
+  pub states : getD I 1 0 ≡ M .states
+  pub start : getD I 2 0 ≡ M .start
+  pub rules : getD I 3 0 ≡ length (M .rows)
+  pub before : getD I 4 0 ≡ beforeAt M
+  pub after : getD I 5 0 ≡ afterAt M
+
+-- The numbers hold the first rule of each state, and behind them the number of rules.
+abbrev pub Firsts : List ℕ → Table → Type 0
+Firsts I M = (q : ℕ) → q ≤ M .states → getD I (firstsFrom + q) 0 ≡ rowsBefore q (M .rows)
+
+-- The numbers hold each row by its number.
+abbrev pub Listed : List ℕ → Table → Type 0
+Listed I M = (i : ℕ) → i < length (M .rows) → getD I (rulesFrom + i) 0 ≡ getD (rowNumbers (length (headFrames M)) (M .rows)) i 0
+
+-- The numbers hold what is kept for each state and symbol.
+abbrev pub Grid : List ℕ → Table → Type 0
+Grid I M = (q f : ℕ) → q < M .states → f < symbolsMost → getD I (gridFrom + (q * symbolsMost + f)) 0 ≡ entryIn 0 (M .rows) q f
+
+-- What makes lent bytes F and numbers I the opened table M.
 pub record Opened (F I : List ℕ) (M : Table) : Type 0 where
   pub limited : Limited M
   pub bytes : length F ≡ framesSize
-  pub entries : length I ≡ indexSize
+  pub numbers : length I ≡ numbersSize
   pub behind : List ℕ
   pub frames : F ≡ framesOf M ++ behind
-  pub index : Indexed I (length (headFrames M)) (M .rows)
+  pub head : HeadIn I M
+  pub firsts : Firsts I M
+  pub listed : Listed I M
+  pub grid : Grid I M

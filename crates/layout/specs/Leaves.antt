@@ -1,18 +1,21 @@
 -- What the leaves answer: the functions through which every layer above reads an opened table. Definitions only.
 use mathlib.Core.Path.{_≡_}
-use mathlib.Core.Bool.{true, false, _&&_}
-use mathlib.Core.List.{List, _++_}
+use mathlib.Core.Logic.{_↔_}
+use mathlib.Core.List.{List, [], _∷_, _++_}
 use mathlib.Core.Option.{Option, none, some}
-use Prim.Native.Nat.{ℕ, _+_, _*_, _<_}
-use lib.Dec.{ltb}
-use lib.ListN.{length, getD, take, drop}
+use Prim.Native.Nat.{ℕ, zero, suc, _+_, _*_, _<_, _≤_}
+use lib.ListN.{length, getD, getElem?, take, drop}
 use Rattle.words.specs.Word.{Word}
-use Rattle.machine.specs.Machine.{Rule, Table}
-use Rattle.layout.specs.Layout.{headFrames, ruleText, ruleLetters}
+use Rattle.machine.specs.Machine.{Child, Rule, Row, Table, Each, find}
+use Rattle.text.specs.Limits.{statesMost, lettersMost, arityMost, rowsMost}
+use Rattle.text.specs.Writing.{textOf, childrenText}
+use Rattle.layout.specs.Layout.{framesSize, headFrames, ruleText, ruleLetters, entryOf}
 use Rattle.layout.specs.declared.Head.{Head}
 use Rattle.layout.specs.declared.Place.{Place}
 use Rattle.layout.specs.declared.Lookup.{Lookup}
 use Rattle.layout.specs.declared.Lookup.the-variants.{Found, Missing}
+use Rattle.layout.specs.declared.RuleOf.{RuleOf}
+use Rattle.layout.specs.declared.RuleOf.the-variants as ruled
 
 -- The letters of the word whose length byte stands at a, clamped to the bytes that are there.
 abbrev pub wordAt : List ℕ → ℕ → Word
@@ -21,10 +24,6 @@ wordAt F a = take (getD F a 0) (drop (a + 1) F)
 -- Where what follows that word stands.
 abbrev pub behindAt : List ℕ → ℕ → ℕ
 behindAt F a = a + 1 + getD F a 0
-
--- The entry of state q and symbol f: 0 beyond 64 states or symbols.
-abbrev pub entryAt : List ℕ → ℕ → ℕ → ℕ
-entryAt I q f = elim (ltb q 64 && ltb f 64) [ true ↦ getD I (q * 64 + f) 0 | false ↦ 0 ]
 
 -- A rule's bytes stand at p.
 pub record RuleAt (F : List ℕ) (p : ℕ) (r : Rule) : Type 0 where
@@ -61,3 +60,61 @@ headOf M =
       rows = length (headFrames M);
       rules = length (M .rows);
     }
+
+-- The row with number i.
+abbrev pub RowAt : Table → ℕ → Row → Type 0
+RowAt M i r = getElem? (M .rows) i ≡ some r
+
+-- A rule with the state and the symbol that it is for.
+abbrev pub rowOf : ℕ → ℕ → Rule → Row
+rowOf q f r = record { state = q; symbol = f; rule = r }
+
+-- Rule number i is the one of state q and symbol f.
+pub record RuleFor (M : Table) (q f i : ℕ) (r : Rule) : Type 0 where
+  pub row : RowAt M i (rowOf q f r)
+  pub found : find (M .rows) q f ≡ some r
+
+-- What looking up the rule of q and f answers: its number, or that there is none.
+abbrev pub Sought : Table → ℕ → ℕ → RuleOf → Type 0
+Sought M q f (ruled.Found i) = (r : Rule) × RuleFor M q f i r
+Sought M q f ruled.Missing = find (M .rows) q f ≡ none
+
+-- A rule within the limits: its words have at most 32 letters, its states are below 64, it has at most 4 children.
+pub record Modest (r : Rule) : Type 0 where
+  pub first : length (r .first) ≤ lettersMost
+  pub rest : Each (λ c cs. (length (c .after) ≤ lettersMost) × (c .state < statesMost)) (r .rest)
+  pub kids : length (r .rest) ≤ arityMost
+
+-- The number x, which is never 0, tells that rule number i is r: its letters, its children's states and how many they are.
+pub record Holds (x i : ℕ) (r : Rule) : Type 0 where
+  pub is : x ≡ entryOf i r
+  pub low : i < rowsMost
+  pub modest : Modest r
+
+-- There is a rule of state q and symbol f, and x tells it.
+pub record Tells (M : Table) (q f x : ℕ) : Type 0 where
+  pub number : ℕ
+  pub rule : Rule
+  pub ruled : RuleFor M q f number rule
+  pub holds : Holds x number rule
+
+-- The number x is what the opened table keeps for state q and symbol f: 0 if there is no rule, else what tells the rule.
+pub record Kept (M : Table) (q f x : ℕ) : Type 0 where
+  pub none : x ≡ 0 → find (M .rows) q f ≡ none
+  pub some : (x ≡ 0 → ⊥) → Tells M q f x
+
+-- The state of child j, 0 if there is no such child.
+unfoldable pub stateNo : List Child → ℕ → ℕ
+stateNo [] j = 0
+stateNo (c ∷ cs) zero = c .state
+stateNo (c ∷ cs) (suc j) = stateNo cs j
+
+-- The rules of state q are those with the numbers from `from` on and before `to`.
+pub record RulesOf (M : Table) (q from to : ℕ) : Type 0 where
+  pub few : to ≤ length (M .rows)
+  pub exactly : (i : ℕ) (r : Row) → RowAt M i r → ((from ≤ i) × (i < to)) ↔ (r .state ≡ q)
+
+-- At spot p of the bytes F stands the word u, and behind it the children cs.
+pub record Spot (F : List ℕ) (u : Word) (cs : List Child) (p : ℕ) : Type 0 where
+  pub behind : List ℕ
+  pub bytes : drop p F ≡ textOf u ++ (childrenText cs ++ behind)

@@ -1,18 +1,54 @@
 // The opened table's leaves: everything above reads an opened table through these functions.
-// None asks anything of the lent bytes: reads are clamped, and each contract speaks of every table that the bytes mean.
+// None asks anything of the lent bytes and numbers: reads are clamped, and each contract speaks of every table that they mean.
 ghost use mathlib.Core.Path.{_≡_};
 ghost use mathlib.Core.List.{List};
-ghost use Prim.Native.Nat.{ℕ, _+_, _/_, _%_, _<_, _≤_};
+ghost use Prim.Native.Nat.{ℕ, _+_, _<_, _≤_};
 ghost use lib.ListN.{length, getD};
 ghost use Rattle.machine.specs.Machine.{Table, find};
 ghost use Rattle.layout.specs.Layout.{Opened};
-ghost use Rattle.layout.specs.Leaves.{wordAt, behindAt, entryAt, LookedUp, Tame};
+ghost use Rattle.layout.specs.Leaves.{wordAt, behindAt, LookedUp, Tame, Sought};
+pub use counts::arity;
+pub use counts::rules;
+pub use counts::start;
+pub use counts::states;
+pub use counts::symbols;
+pub use counts::word_after;
+pub use counts::word_before;
+pub use kept::child_in;
+pub use kept::first_in;
+pub use kept::kept_for;
+pub use kept::kept_here;
+pub use kept::kids_in;
+pub use kept::later_in;
+pub use kept::letters_in;
+pub use kept::number_in;
+pub use rule::Rules;
+pub use rule::kept_of;
+pub use rule::rules_of;
+pub use rule::spot_of;
+pub use rule::state_of;
+pub use rule::symbol_of;
+pub use spot::next_spot;
+pub use spot::state_behind;
+pub use spot::word_at;
 
-// How many bytes and how many entries a caller lends for an opened table. The bytes behind the
+mod counts;
+mod kept;
+mod rule;
+mod spot;
+
+// How many bytes and how many numbers a caller lends for an opened table. The bytes behind the
 // longest table's frames let a word be copied in pieces of 32.
 pub const FRAMES: usize = 16448;
 
-pub const ENTRIES: usize = 4096;
+pub const NUMBERS: usize = 4688;
+
+// The limits of document 01.
+pub const STATES: usize = 64;
+
+pub const SYMBOLS: usize = 64;
+
+pub const RULES: usize = 512;
 
 // A refusal: its number and its place.
 pub struct Refusal {
@@ -44,6 +80,12 @@ pub enum Lookup {
     Missing,
 }
 
+// The rule of a state and a symbol: its number, or that there is none.
+pub enum RuleOf {
+    Found(usize),
+    Missing,
+}
+
 pub fn wide(x: u8) -> usize
     ensures { λ r. ⌜ (r ≡ x) × (r < 256) ⌝ }
 {
@@ -55,6 +97,13 @@ pub fn byte(frames: &[u8], at: usize) -> u8
     ensures { λ r. ⌜ r ≡ getD (now (frames .entry)) at 0 ⌝ }
 {
     if at < frames.len() { frames[at] } else { 0 }
+}
+
+// The number at `at`, and 0 past the end.
+pub fn number(numbers: &[u64], at: usize) -> u64
+    ensures { λ r. ⌜ r ≡ getD (now (numbers .entry)) at 0 ⌝ }
+{
+    if at < numbers.len() { numbers[at] } else { 0 }
 }
 
 // The word whose length byte stands at `at`, as a stretch of the lent bytes.
@@ -82,29 +131,15 @@ pub fn behind(frames: &[u8], at: usize) -> usize
     at + 1 + wide(byte(frames, at))
 }
 
-// The index's number for a state and a symbol, 0 for none.
-pub fn entry(index: &[u64], q: usize, f: usize) -> u64
-    ensures { λ r. ⌜ r ≡ entryAt (now (index .entry)) q f ⌝ }
+// The rule of state q and symbol f: its number, or that there is none.
+pub fn rule_number(numbers: &[u64], q: usize, f: usize) -> RuleOf
+    ensures { λ r. ⌜ ((F : List ℕ) (M : Table) → Opened F (now (numbers .entry)) M → Sought M q f r) ⌝ }
 {
-    if 64 <= q {
-        return 0;
+    let x = kept_for(numbers, q, f);
+    if x == 0 {
+        return RuleOf::Missing;
     }
-    if 64 <= f {
-        return 0;
-    }
-    let i = q * 64 + f;
-    if i < index.len() { index[i] } else { 0 }
-}
-
-// The place that a number of the index other than 0 tells.
-fn place_of(x: u64) -> Place
-    ensures { λ r. ⌜ (r .at ≡ x / 256 % 16384) × (r .kids ≡ x / 18014398509481984 % 8) × (r .letters ≡ x % 256) ⌝ }
-{
-    Place {
-        at: (x / 256 % 16384) as usize,
-        kids: (x / 18014398509481984 % 8) as usize,
-        letters: (x % 256) as usize,
-    }
+    RuleOf::Found(number_in(x))
 }
 
 // The rule of state q and symbol f: where it stands, or that there is none.
@@ -112,10 +147,13 @@ pub fn rule_of(index: &[u64], q: usize, f: usize) -> Lookup
     ensures { λ r. ⌜ ((F : List ℕ) (M : Table) → Opened F (now (index .entry)) M → LookedUp F (find (M .rows) q f) r) ⌝ }
     ensures { λ r. ⌜ Tame r ⌝ }
 {
-    let x = entry(index, q, f);
+    let x = kept_for(index, q, f);
     if x == 0 {
-        Lookup::Missing
-    } else {
-        Lookup::Found(place_of(x))
+        return Lookup::Missing;
     }
+    Lookup::Found(Place {
+        at: spot_of(index, number_in(x)),
+        kids: kids_in(x),
+        letters: letters_in(x),
+    })
 }

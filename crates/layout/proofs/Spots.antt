@@ -1,0 +1,61 @@
+-- Spots: going through the words and the children of a rule.
+use mathlib.Core.Path.{_≡_, sym, ap, subst, _∙_}
+use mathlib.Core.List.{List, _∷_, _++_, append-assoc}
+use Prim.Native.Nat.{ℕ, _+_, _%_, _<_}
+use native.Mathlib.Omega.{arith}
+use lib.ListN.{length, getD, drop, length-drop, length-append}
+use Rattle.words.specs.Word.{Word}
+use Rattle.machine.specs.Machine.{Child, Rule, Row, Table}
+use Rattle.text.specs.Writing.{textOf, childrenText}
+use Rattle.layout.specs.Layout.{ruleText, rowFrames, headFrames, Opened}
+use Rattle.layout.specs.Leaves.{wordAt, behindAt, RuleAt, RowAt, Spot}
+use Rattle.layout.proofs.Stretches.{byte-behind, word-here, word-behind, child-state, child-word, child-behind}
+use Rattle.layout.proofs.Rows.{row-rule, row-there}
+use Rattle.layout.proofs.Numbered.{placeOf}
+
+-- A rule's bytes are its first word at a spot with all its children behind it, and the other way round.
+pub rule-spot : (F : List ℕ) (p : ℕ) (r : Rule) → RuleAt F p r → Spot F (r .first) (r .rest) p
+unfolding ruleText
+rule-spot F p r h =
+    record { behind = h .behind; bytes = h .bytes ∙ append-assoc (textOf (r .first)) (childrenText (r .rest)) (h .behind) }
+
+pub spot-rule : (F : List ℕ) (p : ℕ) (r : Rule) → Spot F (r .first) (r .rest) p → RuleAt F p r
+unfolding ruleText
+spot-rule F p r h =
+    record { behind = h .behind; bytes = h .bytes ∙ sym (append-assoc (textOf (r .first)) (childrenText (r .rest)) (h .behind)) }
+
+-- The first word of the rule with number i stands at its place.
+pub row-spot : {F I : List ℕ} {M : Table} (o : Opened F I M) (i : ℕ) (r : Row) → RowAt M i r → RuleAt F (placeOf M i) (r .rule)
+row-spot {F} {I} {M} o i r e = row-rule F (length (headFrames M) + length (rowFrames (take-rows i))) r _ (row-there o i r e)
+  where
+    take-rows : ℕ → List Row
+    take-rows k = lib.ListN.take k (M .rows)
+
+module _ (F : List ℕ) (u : Word) (cs : List Child) (p : ℕ) (s : Spot F u cs p) where
+  -- The word at a spot is read there.
+  pub spot-word : wordAt F p ≡ u
+  spot-word = word-here F p u (childrenText cs ++ s .behind) (s .bytes)
+
+  -- The children stand behind it.
+  pub spot-behind : drop (behindAt F p) F ≡ childrenText cs ++ s .behind
+  spot-behind = word-behind F p u (childrenText cs ++ s .behind) (s .bytes)
+
+module _ (F : List ℕ) (u : Word) (c : Child) (cs : List Child) (p : ℕ) (s : Spot F u (c ∷ cs) p) where
+  -- The state of the child behind it is read behind it.
+  pub spot-state : getD F (behindAt F p) 0 ≡ c .state
+  spot-state = child-state F (behindAt F p) c cs (s .behind) (spot-behind F u (c ∷ cs) p s)
+
+  -- The word behind that child stands at the next spot.
+  pub spot-next : Spot F (c .after) cs (behindAt F p + 1)
+  unfolding childrenText
+  spot-next =
+      record {
+        behind = s .behind;
+        bytes =
+            byte-behind F (behindAt F p) (c .state) (textOf (c .after) ++ (childrenText cs ++ s .behind))
+            (spot-behind F u (c ∷ cs) p s ∙ append-assoc (c .state ∷ textOf (c .after)) (childrenText cs) (s .behind));
+      }
+
+  -- It stands inside the lent bytes.
+  pub spot-inside : behindAt F p + 1 < length F
+  spot-inside = omega (arith, simp length-drop at (ap length (spot-next .bytes)))
