@@ -5,8 +5,10 @@ use mathlib.Core.List.{List, [], _∷_, _++_}
 use mathlib.Core.Option.{Option, none, some}
 use Prim.Native.Nat.{ℕ, zero, suc, _+_, _*_, _<_, _≤_}
 use lib.ListN.{length, getD, getElem?, take, drop}
+use lib.Seq.{slice}
 use Rattle.words.specs.Word.{Word}
 use Rattle.machine.specs.Machine.{Child, Rule, Row, Table, Each, find}
+use Rattle.machine.specs.Form.{rowsOf}
 use Rattle.text.specs.Limits.{statesMost, lettersMost, arityMost, rowsMost}
 use Rattle.text.specs.Writing.{textOf, childrenText}
 use Rattle.layout.specs.Layout.{framesSize, headFrames, ruleText, ruleLetters, entryOf}
@@ -111,7 +113,9 @@ stateNo (c ∷ cs) (suc j) = stateNo cs j
 
 -- The rules of state q are those with the numbers from `from` on and before `to`.
 pub record RulesOf (M : Table) (q from to : ℕ) : Type 0 where
+  pub ordered : from ≤ to
   pub few : to ≤ length (M .rows)
+  pub rows : rowsOf (M .rows) q ≡ slice from to (M .rows)
   pub exactly : (i : ℕ) (r : Row) → RowAt M i r → ((from ≤ i) × (i < to)) ↔ (r .state ≡ q)
 
 -- At spot p of the bytes F stands the word u, and behind it the children cs.
