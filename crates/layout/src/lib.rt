@@ -43,12 +43,23 @@ pub const FRAMES: usize = 16448;
 
 pub const NUMBERS: usize = 4688;
 
-// The limits of document 01.
-pub const STATES: usize = 64;
+// The limits of document 01, named once: a table text's bytes, its symbols, their arity, its states,
+// its rules, a word's letters; a tree's bytes and its levels.
+pub const TEXT: usize = 32768;
 
 pub const SYMBOLS: usize = 64;
 
+pub const ARITY: usize = 4;
+
+pub const STATES: usize = 64;
+
 pub const RULES: usize = 512;
+
+pub const LETTERS: usize = 32;
+
+pub const TREE: usize = 32768;
+
+pub const LEVELS: usize = 64;
 
 // A refusal: its number and its place.
 pub struct Refusal {
