@@ -5,15 +5,21 @@ use mathlib.Core.Option.{Option, none, some}
 use Prim.Native.Nat.{ℕ, _+_, _*_, _<_, _≤_}
 use lib.ListN.{length, getD, drop}
 use Rattle.words.specs.Word.{Word}
+use Rattle.words.specs.Reply.{given}
 use Rattle.machine.specs.Machine.{Tree, Forest, Table, word}
 use Rattle.machine.specs.Ranks.{Ranked}
 use Rattle.trees.specs.Preorder.{preorder, Levels}
+use Rattle.trees.specs.Shape.{readTree}
 use Rattle.trees.specs.Lacking.{lacks}
 use Rattle.layout.specs.Layout.{Opened}
 use Rattle.walk.specs.declared.Size.{Size}
 use Rattle.walk.specs.declared.Size.the-variants as size
 use Rattle.walk.specs.declared.Step.{Step}
 use Rattle.walk.specs.declared.Step.the-variants as step
+
+-- State q of the table M has no word on the tree that the bytes S are, whatever tree that is by the definition.
+abbrev pub Wordless : Table → List ℕ → ℕ → Type 0
+Wordless M S q = (t : Tree) → readTree (M .arities) S ≡ given t → word M q t ≡ none
 
 -- The tree t stands at `at` in the bytes S, ranked over the symbols of the table M that F and I mean, with at most so many levels.
 pub record Stands (F I S : List ℕ) (at allowed : ℕ) (M : Table) (t : Tree) : Type 0 where

@@ -38,7 +38,7 @@ same-length-3 : tie.Need-same-length-3
 same-length-3 c = search needs
 
 returns-3 : tie.Need-returns-3
-returns-3 c = λ M o e. c .before .before .write .ensures _ _ M o e (tally-counted _ (c .before .before .before .before .before .before .before .before .before .measure .ensures _ M o) (c .before .before .before .before .before .before .before .counted .given .1) e)
+returns-3 c = λ M o e. c .before .before .write .ensures _ _ M o e (tally-counted _ (c .before .before .before .before .before .before .before .before .before .measure .ensures .0 _ M o) (c .before .before .before .before .before .before .before .counted .given .1) e)
 
 pub find-spec : {M : Type 1} → statement M
 find-spec =
