@@ -1,10 +1,10 @@
 -- What the calls for the shape and for the rules tell of the definition's answer, for an opened table and its head. Assumes nothing.
 use mathlib.Core.Path.{_≡_, ap, subst, subst⁻¹, _∙_}
 use mathlib.Core.List.{List}
-use mathlib.Core.Option.{Option, some}
+use mathlib.Core.Option.{Option}
 use Prim.Native.Nat.{ℕ, _+_}
 use lib.ListN.{length}
-use Rattle.words.specs.Reply.{given, refused}
+use Rattle.words.specs.Reply.{refused}
 use Rattle.machine.specs.Machine.{Tree, Table}
 use Rattle.trees.specs.Preorder.{preorder}
 use Rattle.trees.specs.Shape.{readTree}

@@ -44,7 +44,7 @@ tallying-first I S P q W s p w l = record {
   room = omega arith;
 }
 
--- No more letters are counted than symbols of 256 have.
+-- At most 256 letters are counted for each of 32,768 symbols.
 pub tallying-few : {I S P : List ℕ} {q : ℕ} {W : List ℕ} {top next sum at : ℕ} → Tallying I S P q W top next sum at → sum % 268435456 ≤ 8388608
 tallying-few t = omega (arith, t .letters, t .passed, t .short)
 

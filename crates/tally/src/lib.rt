@@ -3,7 +3,6 @@
 ghost use mathlib.Core.Path.{_≡_};
 ghost use mathlib.Core.List.{List};
 ghost use Prim.Native.Nat.{ℕ, suc, _+_, _*_, _/_, _%_, _<_, _≤_};
-ghost use lib.ListN.{length};
 ghost use Rattle.words.specs.Told.{Told};
 ghost use Rattle.machine.specs.Machine.{Table};
 ghost use Rattle.layout.specs.Layout.{Opened};
