@@ -1,6 +1,4 @@
--- Laws of the word call on an opened table: what each answer says, the room after a word, the definition's answer by cases, and what the calls tell of it.
+-- Laws of the word call's answer: what each answer says, the definition's answer by cases, and what the calls for shape and rules tell of it.
 pub mod Said
-pub mod Filled
-pub mod Between
 pub mod Read
 pub mod Calls

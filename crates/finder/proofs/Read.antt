@@ -28,11 +28,16 @@ pub shape-no : (o : Reply Tree) (r : Refusal) → Checked o (shape.Refused r) �
 shape-no (given t) r h = absurd h
 shape-no (refused n p) r h = cc
 
-module _ (M : Table) (S : List ℕ) (room : ℕ) where
+module _ (M : Table) (S : List ℕ) where
   -- A refusal of the shape is the answer.
-  pub into-no : (n p : ℕ) → readTree (M .arities) S ≡ refused n p → wordInto M S room ≡ refused n p
-  unfolding wordInto wordOn
-  into-no n p e = rw e
+  pub on-no : (n p : ℕ) → readTree (M .arities) S ≡ refused n p → wordOn M S ≡ refused n p
+  unfolding wordOn
+  on-no n p e = rw e
+
+  -- A refusal is the answer for any room.
+  pub into-no : (room n p : ℕ) → wordOn M S ≡ refused n p → wordInto M S room ≡ refused n p
+  unfolding wordInto
+  into-no room n p e = rw e
 
   module _ (t : Tree) (read : readTree (M .arities) S ≡ given t) where
     -- A tree that was read stands at the front of the bytes.
@@ -42,11 +47,11 @@ module _ (M : Table) (S : List ℕ) (room : ℕ) where
         record { opened = o; ranked = s .1; levels = s .2; behind = []; bytes = s .0 ∙ sym (append-nil (preorder t)) }
 
     -- Without a word the answer is 9 at the first position without a rule.
-    pub into-lacking : (p : ℕ) → word M (M .start) t ≡ none → lacks M (M .start) t 0 ≡ some p → wordInto M S room ≡ refused 9 p
-    unfolding wordInto wordOn wordIn
-    into-lacking p e l = rw (read, e, l)
+    pub on-lacking : (p : ℕ) → word M (M .start) t ≡ none → lacks M (M .start) t 0 ≡ some p → wordOn M S ≡ refused 9 p
+    unfolding wordOn wordIn
+    on-lacking p e l = rw (read, e, l)
 
     -- With a word the output is that word between the words of the initial rule.
-    pub into-word : (w : Word) → word M (M .start) t ≡ some w → wordInto M S room ≡ into room (given (M .before ++ w ++ M .after))
+    pub into-word : (room : ℕ) (w : Word) → word M (M .start) t ≡ some w → wordInto M S room ≡ into room (given (M .before ++ w ++ M .after))
     unfolding wordInto wordOn wordIn
-    into-word w e = rw (read, e, append-assoc (M .before) w (M .after))
+    into-word room w e = rw (read, e, append-assoc (M .before) w (M .after))

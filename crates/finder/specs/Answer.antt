@@ -6,10 +6,8 @@ use Rattle.words.specs.Word.{Word}
 use Rattle.words.specs.Reply.{Reply, given, refused, mapped}
 use Rattle.promises.specs.Room.{filled}
 use Rattle.promises.specs.Word.{Letters, lettersOf}
-use Rattle.shape.specs.declared.Shape.{Shape}
-use Rattle.shape.specs.declared.Shape.the-variants as shape
-use Rattle.walk.specs.declared.Size.{Size}
-use Rattle.walk.specs.declared.Size.the-variants as size
+use Rattle.walk.specs.declared.Walk.{Walk}
+use Rattle.walk.specs.declared.Walk.the-variants as walk
 use Rattle.finder.specs.declared.WordAnswer.{WordAnswer}
 use Rattle.finder.specs.declared.WordAnswer.the-variants as found
 
@@ -23,11 +21,7 @@ pub record Answers (a : Reply Word) (R R′ : List ℕ) (r : WordAnswer) : Type 
   pub answer : said r ≡ mapped lettersOf a
   pub room : R′ ≡ filled R a
 
--- The refusal of a shape, and the first position without a rule of a measure, as the code hands them on.
-abbrev pub shapeRefusal : Shape → WordAnswer
-shapeRefusal (shape.Ends p) = found.Refused (record { number = 0; place = p })
-shapeRefusal (shape.Refused r) = found.Refused r
-
-abbrev pub lackingAt : Size → ℕ
-lackingAt (size.Fits letters next) = 0
-lackingAt (size.Lacks p) = p
+-- Where a walk stopped.
+abbrev pub placeOf : Walk → ℕ
+placeOf (walk.Ends p) = p
+placeOf (walk.Lacks p) = p

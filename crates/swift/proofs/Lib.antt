@@ -1,4 +1,4 @@
--- Laws of the fast word call: the room after the tree's word and after the three words, and the answer for a tree that was counted.
+-- Laws of the word call on an opened table: the room after the tree's word and after the three words, and the answer for a tree that was counted.
 pub mod Lent
-pub mod Filled
+pub mod Room
 pub mod Ready

@@ -1,29 +1,32 @@
 -- The answer for a tree that was counted: 12, or the room that is filled with the words of the initial rule and the tree's word between them. Assumes nothing.
-use mathlib.Core.Path.{_≡_, sym, subst, subst⁻¹, _∙_}
-use mathlib.Core.List.{List, [], _++_, append-nil}
+use mathlib.Core.Path.{_≡_, refl, ap, subst, subst⁻¹, _∙_}
+use mathlib.Core.List.{List, _++_}
 use Prim.Native.Nat.{ℕ, _+_, _<_, _≤_}
 use native.Mathlib.Omega.{arith}
-use lib.ListN.{length, take, drop}
+use lib.ListN.{length, take, drop, length-append}
 use Rattle.words.specs.Word.{Word, terms}
-use Rattle.words.specs.Reply.{Reply, given}
+use Rattle.words.specs.Reply.{Reply, given, refused}
 use Rattle.machine.specs.Machine.{Tree, Table}
 use Rattle.trees.specs.Preorder.{preorder}
 use Rattle.trees.proofs.Whole.{read-complete}
 use Rattle.promises.specs.Room.{into}
-use Rattle.promises.specs.Word.{wordInto}
+use Rattle.promises.specs.Word.{wordOn, wordInto}
 use Rattle.layout.specs.Layout.{Opened}
 use Rattle.layout.specs.Leaves.{wordAt, headOf}
 use Rattle.layout.specs.declared.Head.{Head}
+use Rattle.layout.specs.declared.Refusal.{Refusal}
+use Rattle.layout.proofs.Heads.{before-word, after-word}
+use Rattle.walk.specs.Walked.{Wordless}
 use Rattle.tally.specs.declared.Tally.{Tally}
 use Rattle.tally.specs.declared.Tally.the-variants as tally
-use Rattle.tally.specs.Tallied.{Counted, Tallied}
+use Rattle.tally.specs.Tallied.{Counted, Tallied, Few}
 use Rattle.pen.specs.Penned.{Due}
 use Rattle.finder.specs.declared.WordAnswer.{WordAnswer}
 use Rattle.finder.specs.declared.WordAnswer.the-variants as found
 use Rattle.finder.specs.Answer.{Answers}
-use Rattle.finder.proofs.Between.{Between, between-short, between-filled}
-use Rattle.finder.proofs.Read.{into-word}
-use Rattle.swift.proofs.Filled.{three-filled}
+use Rattle.finder.proofs.Said.{refused-said, short-said, word-said}
+use Rattle.finder.proofs.Read.{into-no, into-word}
+use Rattle.swift.proofs.Room.{three-filled}
 
 -- u and v are the words of the initial rule, and the tree that the bytes S are was counted.
 pub record Ready (F I S P : List ℕ) (head : Head) (letters : ℕ) (u v : Word) (M : Table) : Type 0 where
@@ -34,37 +37,34 @@ pub record Ready (F I S P : List ℕ) (head : Head) (letters : ℕ) (u v : Word)
   pub last : v ≡ wordAt F (head .after)
 
 module _ {F I S P : List ℕ} {head : Head} {letters : ℕ} {u v : Word} {M : Table} (b : Ready F I S P head letters u v M) where
-  -- The tree's word stands between u and v.
-  ready-between : Between F I S head letters u v M (b .counted .tree) (b .counted .letters-of)
-  ready-between =
-      let k = b .counted in
-      record {
-        stands = record {
-          opened = b .opened;
-          ranked = k .ranked;
-          levels = k .levels;
-          behind = [];
-          bytes = k .bytes ∙ sym (append-nil (preorder (k .tree)));
-        };
-        is = b .is;
-        says = k .is;
-        long = k .many;
-        first = b .first;
-        last = b .last;
-      }
+  -- u is the initial rule's first word.
+  first-is : u ≡ M .before
+  first-is = b .first ∙ ap (λ (h : Head). wordAt F (h .before)) (b .is) ∙ before-word (b .opened)
+
+  -- v is its second word.
+  last-is : v ≡ M .after
+  last-is = b .last ∙ ap (λ (h : Head). wordAt F (h .after)) (b .is) ∙ after-word (b .opened)
+
+  -- The output is the three words, one behind the other.
+  output-is : u ++ b .counted .letters-of ++ v ≡ M .before ++ b .counted .letters-of ++ M .after
+  output-is = cc (first-is, last-is)
+
+  -- It has the letters of the three.
+  output-long : length u + letters + length v ≡ length (u ++ b .counted .letters-of ++ v)
+  output-long = simp length-append (omega (arith, b .counted .many))
 
   -- The definition's answer is that for the three words.
-  ready-answer : {r : WordAnswer} (R R′ : List ℕ) → Answers (into (length R) (given (M .before ++ b .counted .letters-of ++ M .after))) R R′ r
+  ready-answer : {r : WordAnswer} (R R′ : List ℕ) → Answers (into (length R) (given (u ++ b .counted .letters-of ++ v))) R R′ r
       → Answers (wordInto M S (length R)) R R′ r
   ready-answer {r} R R′ a =
       let k = b .counted in
       let e = read-complete (M .arities) S (k .tree) (k .bytes) (k .ranked) (k .levels) (k .size) in
-      subst⁻¹ (λ (x : Reply Word). Answers x R R′ r) (into-word M S (length R) (k .tree) e (k .letters-of) (k .is)) a
+      subst⁻¹ (λ (x : Reply Word). Answers x R R′ r) (into-word M S (k .tree) e (length R) (k .letters-of) (k .is)) (rw output-is at a)
 
   -- A room that is too short is refused with the length of the three.
   pub ready-short : {r : WordAnswer} (R : List ℕ) → length R < length u + letters + length v
       → r ≡ found.Refused (record { number = 12; place = length u + letters + length v }) → Answers (wordInto M S (length R)) R R r
-  ready-short R h e = ready-answer R R (between-short ready-between R h e)
+  ready-short R h e = ready-answer R R (short-said R (u ++ b .counted .letters-of ++ v) (length u + letters + length v) output-long h e)
 
   -- Writing by the plan is due.
   ready-due : Due F P 0 64 letters M (M .start) (b .counted .tree) (b .counted .letters-of)
@@ -92,7 +92,7 @@ module _ {F I S P : List ℕ} {head : Head} {letters : ℕ} {u v : Word} {M : Ta
       let w : Word = k .letters-of in
       let y = wrote M (M .start) (k .tree) w ready-due (k .many) in
       ready-answer R R₃
-      (between-filled ready-between R R₃ n h en er
+      (word-said R R₃ (u ++ w ++ v) (length u + letters + length v) n output-long en h er
       (three-filled R R₁ R₂ R₃ u w v from e₁ ef
       (subst (λ (x : ℕ). R₂ ≡ take from R₁ ++ w ++ drop (from + x) R₁) (k .many) y)
       (subst (λ (x : ℕ). R₃ ≡ take (from + x) R₂ ++ v ++ drop (from + x + length v) R₂) (k .many) e₃)))
@@ -102,3 +102,16 @@ pub tally-counted : {F S P : List ℕ} {M : Table} {head : Head} {r : Tally} (le
     → head ≡ headOf M → Counted F S P M (M .start) letters
 tally-counted {F} {S} {P} {M} {head} {r} letters h e i =
     subst (λ (x : Head). Counted F S P M (x .start) letters) i (subst (λ (x : Tally). Tallied F S P M (head .start) x) e h)
+
+-- It counted few letters.
+pub tally-few : (r : Tally) (letters : ℕ) → Few r → r ≡ tally.Counted letters → letters ≤ 8388608
+tally-few r letters h e = rw e at h
+
+-- What a tally that did not count says: why there is no word, from the initial state on, is the answer.
+pub tally-other : {F I : List ℕ} (S P : List ℕ) {M : Table} {head : Head} (r : Tally) {why : Refusal} (R : List ℕ) → Tallied F S P M (head .start) r
+    → r ≡ tally.Other → Opened F I M → head ≡ headOf M
+    → ((M : Table) → Opened F I M → head ≡ headOf M → Wordless M S (M .start) → wordOn M S ≡ refused (why .number) (why .place))
+    → Answers (wordInto M S (length R)) R R (found.Refused why)
+tally-other {F} {I} S P {M} {head} r {why} R h e o i told =
+    let n = subst (λ (x : Head). Wordless M S (x .start)) i (subst (λ (x : Tally). Tallied F S P M (head .start) x) e h) in
+    refused-said R (why .number) (why .place) (into-no M S (length R) (why .number) (why .place) (told M o i n)) refl

@@ -1,5 +1,5 @@
-// The word call on an opened table, fast: one measuring loop that leaves a plan, and the writing
-// pass by the plan. Anything unusual goes to the finder, which tells number and place.
+// The word call on an opened table: one measuring loop that leaves a plan, and the writing pass by
+// the plan; where the loop finds no word, the finder tells why, with number and place.
 use finder::Letters;
 use finder::WordAnswer;
 use layout::Head;
@@ -17,6 +17,20 @@ ghost use Rattle.promises.specs.Word.{wordInto};
 ghost use Rattle.finder.specs.Answer.{Answers};
 ghost use Rattle.tally.specs.Tallied.{Counted};
 ghost use Rattle.pen.specs.Penned.{Due};
+
+// Copies a word into the room from `at` on, and answers the place behind it.
+fn put(word: &[u8], room: &mut [u8], at: usize) -> usize
+    requires { ⌜ at + length (now word) ≤ length (now room) ⌝ }
+    ensures { λ r. ⌜ (r ≡ at + length (now (word .entry)))
+        × (now (room .exit) ≡ take at (now (room .entry)) ++ now (word .entry) ++ drop (at + length (now (word .entry))) (now (room .entry))) ⌝ }
+{
+    let mut i = 0;
+    while i < word.len() {
+        room[at + i] = word[i];
+        i += 1;
+    }
+    at + word.len()
+}
 
 // The 32 bytes of the room from `at` on.
 fn saved(room: &[u8], at: usize) -> [u8; 32]
@@ -48,7 +62,7 @@ fn put_tree(frames: &[u8; 16448], plan: &[u32; 32768], letters: usize, room: &mu
     let behind = saved(room, end);
     let spare = end + 32;
     pen::eval(64, plan, frames, 0, &mut room[from..spare]);
-    walk::put(&behind, room, end);
+    put(&behind, room, end);
 }
 
 // Writes the word of a tree that was counted, between the words of the initial rule: 12 with the
@@ -75,10 +89,10 @@ fn write(
             place: length,
         });
     }
-    let from = walk::put(before, room, 0);
+    let from = put(before, room, 0);
     put_tree(frames, plan, letters, room, from);
     let end = from + letters;
-    walk::put(after, room, end);
+    put(after, room, end);
     let terms = terms::terms_in(room, length);
     WordAnswer::Found(Letters { length, terms })
 }
@@ -97,10 +111,7 @@ pub fn find(
 {
     let counted = tally::measure(index, tree, plan, head.start);
     let Tally::Counted { letters } = counted else {
-        return finder::find(frames, index, head, tree, room);
+        return WordAnswer::Refused(finder::why(frames, index, head, tree));
     };
-    if 8388608 < letters {
-        return finder::find(frames, index, head, tree, room);
-    }
     write(frames, head, plan, letters, room)
 }

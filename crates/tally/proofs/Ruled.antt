@@ -10,7 +10,7 @@ use Rattle.layout.specs.Layout.{ruleLetters, firstState, laterStates, Opened}
 use Rattle.layout.specs.Leaves.{entryAt}
 use Rattle.layout.proofs.Index.{entry-inside}
 use Rattle.layout.proofs.Unpack.{Unpacked}
-use Rattle.layout.proofs.Entries.{find-row, Entered, entry-some, entry-none, entered-unpacks}
+use Rattle.layout.proofs.Entries.{find-row, Entered, entry-some, entry-none, entered-unpacks, entered-positive}
 use Rattle.walk.specs.Plan.{Names}
 use Rattle.tally.proofs.Held.{Fitted}
 
@@ -76,3 +76,18 @@ module _ {F I : List ℕ} {M : Table} (o : Opened F I M) (p f : ℕ) where
       go : (m : Option Rule) → find (M .rows) p f ≡ m → Ruled F M p f x
       go (some r) e = ruled-some x r e (ex ∙ sym (entry-inside I p f hp hf))
       go none e = absurd (nz (ex ∙ sym (entry-inside I p f hp hf) ∙ entry-none o p f e))
+
+  module _ (r : Rule) (e : find (M .rows) p f ≡ some r) where
+    -- A state and a symbol that have a rule are below 64.
+    pub found-small : (p < 64) × (f < 64)
+    found-small =
+        let row = find-row (RowFits M) (M .rows) p f r (o .limited .made .rows) e in (
+          omega (arith, row .holds .state, row .state, o .limited .states),
+          omega (arith, row .holds .symbol, row .symbol, o .limited .symbols),
+        )
+
+    -- The entry of a rule is not 0.
+    pub found-entry : (x : ℕ) → x ≡ getD I (p * 64 + f) 0 → x ≡ 0 → ⊥
+    found-entry x ex z =
+        let s = found-small in
+        omega (arith, entered-positive (entry-some o p f r e), entry-inside I p f (s .0) (s .1))

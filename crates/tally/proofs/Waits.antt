@@ -1,5 +1,5 @@
 -- The stack of waiting numbers: the number that comes next, and those under it, from the top down. The lowest place of the stack holds none.
-use mathlib.Core.Path.{_≡_, refl, _∙_}
+use mathlib.Core.Path.{_≡_, refl, ap, _∙_}
 use mathlib.Core.List.{List, [], _∷_, _++_}
 use Prim.Native.Nat.{ℕ, zero, suc, _+_, _-_, _*_, _/_, _%_, _<_, _≤_}
 use native.Mathlib.Omega.{arith}
@@ -14,6 +14,11 @@ use Rattle.tally.proofs.Held.{kids}
 abbrev pub under : List ℕ → ℕ → List ℕ
 under W zero = []
 under W (suc n) = getD W (suc n) 0 ∷ under W n
+
+-- There are as many.
+pub under-long : (W : List ℕ) (n : ℕ) → length (under W n) ≡ n
+under-long W zero = refl
+under-long W (suc n) = ap suc (under-long W n)
 
 -- What waits where the stack has `top` places: none if it has none left.
 abbrev pub waits : List ℕ → ℕ → ℕ → List ℕ

@@ -1,2 +1,2 @@
--- The fast measuring pass.
+-- Measuring a tree.
 pub mod Tallied

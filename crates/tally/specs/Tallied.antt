@@ -1,4 +1,4 @@
--- What the fast measuring pass answers. Definitions only.
+-- What measuring answers. Definitions only.
 use mathlib.Core.Path.{_≡_}
 use mathlib.Core.List.{List}
 use mathlib.Core.Option.{some}
@@ -9,6 +9,7 @@ use Rattle.machine.specs.Machine.{Tree, Table, word}
 use Rattle.machine.specs.Ranks.{Ranked}
 use Rattle.trees.specs.Preorder.{preorder, Levels}
 use Rattle.walk.specs.Plan.{Planned}
+use Rattle.walk.specs.Walked.{Wordless}
 use Rattle.tally.specs.declared.Tally.{Tally}
 use Rattle.tally.specs.declared.Tally.the-variants as tally
 
@@ -24,10 +25,15 @@ pub record Counted (F S P : List ℕ) (M : Table) (q letters : ℕ) : Type 0 whe
   pub many : letters ≡ length letters-of
   pub planned : Planned F P M tree q 0
 
--- What a tally says: where it counted, that; where it did not, nothing (the slow pass then tells why).
+-- What a tally says: where it counted, that; where it did not, that the bytes are no tree with a word.
 abbrev pub Tallied : List ℕ → List ℕ → List ℕ → Table → ℕ → Tally → Type 0
 Tallied F S P M q (tally.Counted letters) = Counted F S P M q letters
-Tallied F S P M q tally.Other = Unit {0}
+Tallied F S P M q tally.Other = Wordless M S q
+
+-- Whatever the index holds: at most 256 letters for each of 32,768 symbols are counted.
+abbrev pub Few : Tally → Type 0
+Few (tally.Counted letters) = letters ≤ 8388608
+Few tally.Other = Unit {0}
 
 -- Tree bytes S of a length that is read, a plan P with a place for each of them, and a state q.
 pub record Ready (S P : List ℕ) (q : ℕ) : Type 0 where

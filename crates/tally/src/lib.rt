@@ -1,16 +1,14 @@
-// The fast measuring pass: shape and letters of a tree in one loop over its bytes, which leaves the
-// plan for the writing pass. Where it meets anything unusual it says so, and the slow pass finds the
-// number and the place.
+// Measuring a tree: its shape and letters in one loop over its bytes, which leaves the plan for the
+// writing pass; or that the bytes are no tree with a word.
 ghost use mathlib.Core.Path.{_≡_};
 ghost use mathlib.Core.List.{List};
 ghost use Prim.Native.Nat.{ℕ, suc, _+_, _*_, _/_, _%_, _<_, _≤_};
-ghost use lib.ListN.{length};
 ghost use Rattle.words.specs.Told.{Told};
 ghost use Rattle.machine.specs.Machine.{Table};
 ghost use Rattle.layout.specs.Layout.{Opened};
-ghost use Rattle.tally.specs.Tallied.{Tallied, Ready, Usual, NextIs};
+ghost use Rattle.tally.specs.Tallied.{Tallied, Few, Ready, Usual, NextIs};
 
-// A tree's letters; or that it is no tree with a word.
+// A tree's letters; or that the bytes are no tree with a word.
 pub enum Tally {
     Counted { letters: usize },
     Other,
@@ -82,10 +80,9 @@ fn next_of(kids: usize, below: u16, first: u64) -> u64
     if kids == 0 { below as u64 } else { first }
 }
 
-// Whether the loop can go through tree bytes from state q on. Where it can, the plan has a place for
-// each byte.
-fn ready(tree: &[u8], plan: &mut [u32; 32768], q: usize) -> bool
-    ensures { λ r. ⌜ Told (Ready (now (tree .entry)) (now (plan .exit)) q) r ⌝ }
+// Whether the loop can go through tree bytes from state q on, with a place of the plan for each.
+fn ready(tree: &[u8], plan: &[u32], q: usize) -> bool
+    ensures { λ r. ⌜ Told (Ready (now (tree .entry)) (now (plan .entry)) q) r ⌝ }
 {
     if tree.len() == 0 {
         return false;
@@ -93,13 +90,10 @@ fn ready(tree: &[u8], plan: &mut [u32; 32768], q: usize) -> bool
     if 32768 < tree.len() {
         return false;
     }
-    if 63 < q {
+    if plan.len() < tree.len() {
         return false;
     }
-    // The plan's last place is there: what is written is read back.
-    let last = tree.len() - 1;
-    plan[last] = 1;
-    if plan[last] == 0 {
+    if 63 < q {
         return false;
     }
     true
@@ -124,9 +118,11 @@ fn usual(f: usize, next: u64, top: usize) -> bool
     true
 }
 
-// Measures the tree that tree bytes are, from state q on, and plans its writing.
+// Measures the tree that tree bytes are, from state q on, and plans its writing: `Other` where they
+// are no tree with a word. The letters are few whatever the index holds.
 pub fn measure(index: &[u64; 4096], tree: &[u8], plan: &mut [u32; 32768], q: usize) -> Tally
     ensures { λ r. ⌜ ((F : List ℕ) (M : Table) → Opened F (now (index .entry)) M → Tallied F (now (tree .entry)) (now (plan .exit)) M q r) ⌝ }
+    ensures { λ r. ⌜ Few r ⌝ }
 {
     if !ready(tree, plan, q) {
         return Tally::Other;

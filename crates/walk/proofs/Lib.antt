@@ -1,9 +1,4 @@
--- Laws of the walk down a tree.
-pub mod Room
+-- Laws of the walk down a tree: its root, what is left of a rule, and one child after the other.
 pub mod Roots
-pub mod EvalRule
-pub mod EvalHeld
-pub mod EvalGoing
-pub mod MeasureRest
-pub mod MeasureLeft
-pub mod MeasureTurns
+pub mod Left
+pub mod Turns

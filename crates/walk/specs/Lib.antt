@@ -1,3 +1,3 @@
--- The walk down a tree: measuring and writing its word.
+-- The walk down a tree, and the plan of a tree's writing.
 pub mod Walked
 pub mod Plan

@@ -1,58 +1,38 @@
--- `find` meets its contract: what writing answers where the tree was counted, else what the finder answers. Assumes nothing.
-use Rattle.swift.proofs.Ready.{tally-counted}
+-- `find` meets its contract: what writing answers where the tree was counted, else why there is no word. Assumes nothing.
+use Rattle.swift.proofs.Ready.{tally-counted, tally-few, tally-other}
 use borrow.Author.Needs.{needs}
 use Rattle.swift.proofs.find.Statement.{statement}
 use Rattle.swift.proofs.find.Tie as tie
 
-measure-requires : tie.Need-measure-requires
-measure-requires c κs = search needs
-
-enum-known-counted : tie.Need-enum-known-counted
-enum-known-counted c = search needs
-
-enum-told : tie.Need-enum-told
-enum-told c = search needs
-
-find-requires : tie.Need-find-requires
-find-requires c κs = search needs
-
-same-length : tie.Need-same-length
-same-length c = search needs
-
 returns : tie.Need-returns
-returns c = search needs
-
-find-requires-2 : tie.Need-find-requires-2
-find-requires-2 c κs = search needs
-
-same-length-2 : tie.Need-same-length-2
-same-length-2 c = search needs
-
-returns-2 : tie.Need-returns-2
-returns-2 c = search needs
+returns c =
+    let told = c .before .before .before in
+    let m = told .before .before in
+    let a = m .before .before .before .before .args in
+    λ M o e. tally-other (a .tree .now) _ (m .measure .result) (a .room .now) (m .measure .ensures .0 _ M o) (told .enum-told .given .1) o e (c .why .ensures)
 
 write-requires : tie.Need-write-requires
-write-requires c κs = search needs
+write-requires c κs =
+    let counted = c .before .before .before in
+    let m = counted .before .before .measure in
+    tally-few (m .result) _ (m .ensures .1) (counted .counted .given .1)
 
-same-length-3 : tie.Need-same-length-3
-same-length-3 c = search needs
-
-returns-3 : tie.Need-returns-3
-returns-3 c = λ M o e. c .before .before .write .ensures _ _ M o e (tally-counted _ (c .before .before .before .before .before .before .before .before .before .measure .ensures _ M o) (c .before .before .before .before .before .before .before .counted .given .1) e)
+returns-2 : tie.Need-returns-2
+returns-2 c =
+    let write = c .before .before in
+    let counted = write .before .before .before .before in
+    let m = counted .before .before .measure in
+    λ M o e. write .write .ensures _ _ M o e (tally-counted _ (m .ensures .0 _ M o) (counted .counted .given .1) e)
 
 pub find-spec : {M : Type 1} → statement M
 find-spec =
     tie.close
     (tie.spec
-    measure-requires
-    enum-known-counted
-    enum-told
-    find-requires
-    same-length
+    (λ c κs. search needs)
+    (λ c. search needs)
+    (λ c. search needs)
+    (λ c κs. search needs)
     returns
-    find-requires-2
-    same-length-2
-    returns-2
     write-requires
-    same-length-3
-    returns-3)
+    (λ c. search needs)
+    returns-2)

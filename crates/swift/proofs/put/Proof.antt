@@ -7,10 +7,8 @@ use borrow.Author.Needs.{needs}
 use mathlib.Core.List.{List, _++_}
 use lib.ListN.{length, take, drop, set, getD, length-set}
 use lib.Seq.{paste, paste-zero, paste-suc, take-length}
-use Rattle.walk.proofs.put.Statement.{statement}
-use Rattle.walk.proofs.put.Tie as tie
-use Rattle.walk.proofs.put.Reads as reads
-use Rattle.walk.proofs.put.Lts as lts
+use Rattle.swift.proofs.put.Statement.{statement}
+use Rattle.swift.proofs.put.Tie as tie
 
 abbrev Inv-loop : tie.InvT-loop
 Inv-loop word room₀ at i₀ room i = (i ≤ length word) × (room ≡ paste room₀ at word i) × (length room ≡ length room₀)
