@@ -1,7 +1,7 @@
 -- The states of a rule's children in one number, child by child.
 use mathlib.Core.Path.{_≡_, refl}
 use mathlib.Core.List.{List, [], _∷_, _++_}
-use Prim.Native.Nat.{ℕ, zero, suc, _+_, _*_, _<_, _≤_}
+use Prim.Native.Nat.{ℕ, zero, suc, _+_, _*_, _^_, _<_, _≤_}
 use native.Mathlib.Omega.{arith}
 use lib.ListN.{length}
 use Rattle.machine.specs.Machine.{Child}
@@ -9,10 +9,10 @@ use Rattle.layout.specs.Layout.{firstState, folded, laterStates, kidsPacked}
 use Rattle.fields.specs.Read.{FirstAfter, RestAfter}
 
 -- One state more stands lowest.
-folded-snoc : (n : ℕ) (cs : List Child) (c : Child) → folded n (cs ++ c ∷ []) ≡ folded n cs * 64 + c .state
+folded-snoc : (n : ℕ) (cs : List Child) (c : Child) → folded n (cs ++ c ∷ []) ≡ folded n cs * 1024 + c .state
 unfolding folded
 folded-snoc n [] c = refl
-folded-snoc n (d ∷ cs) c = folded-snoc (n * 64 + d .state) cs c
+folded-snoc n (d ∷ cs) c = folded-snoc (n * 1024 + d .state) cs c
 
 -- One child more: the first child's state.
 pub first-snoc : (cs : List Child) (c : Child) (done first q r : ℕ) → done ≡ length cs → first ≡ firstState cs → q ≡ c .state → FirstAfter done first q r
@@ -31,19 +31,19 @@ later-snoc (d ∷ cs) c done rest q r l e f a = omega (arith, a .longer (omega a
 -- How large the other children's states are together, where there are n children in all.
 pub record Room (n rest : ℕ) : Type 0 where
   pub one : n ≤ 1 → rest ≡ 0
-  pub two : n ≤ 2 → rest < 64
-  pub three : n ≤ 3 → rest < 4096
-  pub four : n ≤ 4 → rest < 262144
+  pub two : n ≤ 2 → rest < 1024
+  pub three : n ≤ 3 → rest < 1024 ^ 2
+  pub four : n ≤ 4 → rest < 1024 ^ 3
 
 -- No child.
 pub room-none : Room 0 0
 room-none = record { one = λ h. refl; two = λ h. omega arith; three = λ h. omega arith; four = λ h. omega arith }
 
--- A first child takes no room among the others, a further one a factor 64.
+-- A first child takes no room among the others, a further one a factor 1024.
 room-first : (rest r : ℕ) → r ≡ rest → Room 0 rest → Room 1 r
 room-first rest r e m = let z : rest ≡ 0 = m .one (omega arith) in record { one = λ h. omega arith; two = λ h. omega arith; three = λ h. omega arith; four = λ h. omega arith }
 
-room-further : (n rest q r : ℕ) → 0 < n → q < 64 → r ≡ rest * 64 + q → Room n rest → Room (n + 1) r
+room-further : (n rest q r : ℕ) → 0 < n → q < 64 → r ≡ rest * 1024 + q → Room n rest → Room (n + 1) r
 room-further n rest q r p k e m =
     record {
       one = λ h. absurd (omega arith);
@@ -58,7 +58,7 @@ room-more zero rest q r k a m = room-first rest r (a .kept refl) m
 room-more (suc n) rest q r k a m = room-further (suc n) rest q r (omega arith) k (a .longer (omega arith)) m
 
 -- The number of at most four children.
-pub packed-right : (cs : List Child) (first rest count x : ℕ) → first ≡ firstState cs → rest ≡ laterStates cs → length cs ≡ count → x ≡ first * 4194304 + rest * 68719476736 + count * 18014398509481984
-    → x ≡ kidsPacked cs
+pub packed-right : (cs : List Child) (first rest count x : ℕ) → first ≡ firstState cs → rest ≡ laterStates cs → length cs ≡ count
+    → x ≡ first * 2 ^ 21 + rest * 2 ^ 31 + count * 2 ^ 61 → x ≡ kidsPacked cs
 unfolding kidsPacked
 packed-right cs first rest count x e f l d = omega arith

@@ -133,7 +133,7 @@ module _ {F : List ℕ} {at end states count next letters first rest left : ℕ}
       }
 
   -- All children are read.
-  pub begun-all : (x : ℕ) → left ≤ 0 → count ≤ 4 → x ≡ first * 4194304 + rest * 68719476736 + count * 18014398509481984 → x < 2 ^ 57 → KidsRead F at end (children states count (slice at end F)) (kids.Got next letters x)
+  pub begun-all : (x : ℕ) → left ≤ 0 → count ≤ 4 → x ≡ first * 2 ^ 21 + rest * 2 ^ 31 + count * 2 ^ 61 → x < 5 * 2 ^ 61 → KidsRead F at end (children states count (slice at end F)) (kids.Got next letters x)
   begun-all x h k e m =
       let l : length (b .acc) ≡ count = omega (arith, b .number) in
       let r : children states count (slice at end F) ≡ got (b .acc) (slice next end F) = b .remains ∙ ap (front (b .acc)) (children-none states left (slice next end F) h) ∙ ap (λ x. got x (slice next end F)) (append-nil (b .acc)) in

@@ -74,7 +74,7 @@ pub record Family (F bs : List ℕ) (cs : List Child) (at end then n x : ℕ) : 
   pub letters : n ≡ restLetters cs
   pub packed : x ≡ kidsPacked cs
   pub few : n ≤ 128
-  pub small : x < 2 ^ 57
+  pub small : x < 5 * 2 ^ 61
 
 abbrev pub KidsRead : List ℕ → ℕ → ℕ → Parsed (List Child) → Kids → Type 0
 KidsRead F at end (got cs bs) (kids.Got then n x) = Family F bs cs at end then n x
@@ -103,4 +103,4 @@ pub record FirstAfter (done first state r : ℕ) : Type 0 where
 
 pub record RestAfter (done rest state r : ℕ) : Type 0 where
   pub kept : done ≡ 0 → r ≡ rest
-  pub longer : 0 < done → r ≡ rest * 64 + state
+  pub longer : 0 < done → r ≡ rest * 1024 + state

@@ -156,18 +156,18 @@ fn first_after(done: usize, first: u64, state: u64) -> u64
 
 // The states of the children behind the first, where `done` children came before this one.
 fn rest_after(done: usize, rest: u64, state: u64) -> u64
-    requires { ⌜ (rest < 262144) × (state < 64) ⌝ }
+    requires { ⌜ (rest < 1024 ^ 3) × (state < 64) ⌝ }
     ensures { λ r. ⌜ RestAfter done rest state r ⌝ }
 {
-    if done == 0 { rest } else { rest * 64 + state }
+    if done == 0 { rest } else { rest * 1024 + state }
 }
 
-// The children's states and their number in one number.
+// The children's states, ten bits each, and their number in one number.
 fn packed_of(first: u64, rest: u64, count: usize) -> u64
-    requires { ⌜ (first < 64) × (rest < 262144) × (count ≤ 4) ⌝ }
-    ensures { λ r. ⌜ (r ≡ first * 4194304 + rest * 68719476736 + count * 18014398509481984) × (r < 2 ^ 57) ⌝ }
+    requires { ⌜ (first < 64) × (rest < 1024 ^ 3) × (count ≤ 4) ⌝ }
+    ensures { λ r. ⌜ (r ≡ first * 2 ^ 21 + rest * 2 ^ 31 + count * 2 ^ 61) × (r < 5 * 2 ^ 61) ⌝ }
 {
-    first * 4194304 + rest * 68719476736 + (count as u64) * 18014398509481984
+    first * 2097152 + rest * 2147483648 + (count as u64) * 2305843009213693952
 }
 
 // The children of a rule, for each its state and a word.

@@ -18,10 +18,10 @@ use Rattle.frames.proofs.StepFrames.{stepped-left, stepped-ready, frame
 abbrev pub behindEnd : Stage → ℕ → Stage
 behindEnd st end = record { phase = 2; head = st .head; last = st .last; used = end }
 
-module _ {F I : List ℕ} {st : Stage} {M : Table} (a : AtRules F I st M) (at end : ℕ) where
+module _ {F R : List ℕ} {st : Stage} {M : Table} (a : AtRules F R st M) (at end : ℕ) where
   -- Bytes are left over.
-  pub end-over : at < end → end ≤ length F → Stepped F I (text.whole (text.endFrame M (slice at end F))) (next.Wrong 5)
-  end-over h l = stepped-left F I _ _ at end refl h l
+  pub end-over : at < end → end ≤ length F → Stepped F R (text.whole (text.endFrame M (slice at end F))) (next.Wrong 5)
+  end-over h l = stepped-left F R _ _ at end refl h l
 
   module _ (whole : end ≤ at) (next-to : at ≡ st .used + 1) (start : at ≤ end) (inside : end ≤ length F) (kind : getD F (st .used) 0 ≡ 4) where
     -- No byte is left over.
@@ -36,11 +36,11 @@ module _ {F I : List ℕ} {st : Stage} {M : Table} (a : AtRules F I st M) (at en
         ∙ ap (λ l. headFrames M ++ rowFrames (M .rows) ++ 4 ∷ l) nothing-left
 
     -- The stage behind the end.
-    pub end-next : Stepped F I (text.whole (text.endFrame M (slice at end F))) (next.Ready (behindEnd st end))
-    end-next = stepped-ready F I _ _ at end refl _ _ start whole (record {
+    pub end-next : Stepped F R (text.whole (text.endFrame M (slice at end F))) (next.Ready (behindEnd st end))
+    end-next = stepped-ready F R _ _ at end refl _ _ start whole (record {
       phase = refl;
       head = a .numbers .head;
       used = frame-long F (st .used) end (omega arith) inside _ frames-all;
       frames = frames-all;
-      index = a .index;
+      rules = a .rules;
     }) refl

@@ -7,6 +7,7 @@ pub mod RuleKeys
 pub mod RuleBytes
 pub mod RuleSteps
 pub mod RuleStage
+pub mod Keeping
 pub mod RuleFrame
 pub mod EndFrame
 pub mod Steps

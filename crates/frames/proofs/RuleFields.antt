@@ -42,48 +42,48 @@ module _ (states k : ℕ) (bs : List ℕ) where
 -- ---- from what is read to the answer
 
 -- A rule that is refused.
-pub rule-fault : (F : List ℕ) (at end k n : ℕ) (o : Parsed Rule) → o ≡ fault k → n ≡ k → RuleRead F at end o (entry.Fault n)
-rule-fault F at end k n o e f = rw e f
+pub rule-fault : (F : List ℕ) (i at end k n : ℕ) (o : Parsed Rule) → o ≡ fault k → n ≡ k → RuleRead F i at end o (entry.Fault n)
+rule-fault F i at end k n o e f = rw e f
 
 -- The sum that is packed is the rule's entry.
-entry-sum : (at : ℕ) (u : Word) (cs : List Child) (n more packed x : ℕ) → n + more ≡ ruleLetters (record { first = u; rest = cs })
-    → packed ≡ kidsPacked cs → x ≡ n + more + 256 * at + packed → x ≡ entryOf at (record { first = u; rest = cs })
+entry-sum : (i : ℕ) (u : Word) (cs : List Child) (n more packed x : ℕ) → n + more ≡ ruleLetters (record { first = u; rest = cs })
+    → packed ≡ kidsPacked cs → x ≡ n + more + 256 + 512 * i + packed → x ≡ entryOf i (record { first = u; rest = cs })
 unfolding entryOf
-entry-sum at u cs n more packed x l p e = omega arith
+entry-sum i u cs n more packed x l p e = omega arith
 
 -- A rule that is read.
-pub rule-got : (F : List ℕ) (at end states k n behind then more packed x : ℕ) → IsWord F at end n behind (text (slice at end F))
-    → IsFamily F behind end then more packed (children states k (slice behind end F)) → x ≡ n + more + 256 * at + packed
-    → RuleRead F at end (ruleField states k (slice at end F)) (entry.Rule then x)
+pub rule-got : (F : List ℕ) (number at end states k n behind then more packed x : ℕ) → IsWord F at end n behind (text (slice at end F))
+    → IsFamily F behind end then more packed (children states k (slice behind end F)) → x ≡ n + more + 256 + 512 * number + packed
+    → RuleRead F number at end (ruleField states k (slice at end F)) (entry.Rule then x)
 unfolding ruleLetters
-rule-got F at end states k n behind then more packed x w i e =
+rule-got F number at end states k n behind then more packed x w i e =
     let c = i .family in
     rw (rule-read states k (slice at end F) (slice (at + 1) behind F) (slice behind end F) (i .read-children) (slice then end F) (w .read) (i .read))
     (record {
       left = refl;
       from = omega (arith, w .next, c .from);
       inside = c .inside;
-      entry = entry-sum at (slice (at + 1) behind F) (i .read-children) n more packed x (omega (arith, w .long, c .letters)) (c .packed) e;
+      entry = entry-sum number (slice (at + 1) behind F) (i .read-children) n more packed x (omega (arith, w .long, c .letters)) (c .packed) e;
     })
 
 -- ---- from the answer to what is read
 
--- A rule is read, its entry is x, and the bytes from `then` on are left.
-pub record IsRule (F : List ℕ) (at end then x : ℕ) (o : Parsed Rule) : Type 0 where
+-- Rule number i is read, x is kept for it, and the bytes from `then` on are left.
+pub record IsRule (F : List ℕ) (i at end then x : ℕ) (o : Parsed Rule) : Type 0 where
   pub rule : Rule
   pub read : o ≡ got rule (slice then end F)
   pub from : at ≤ then
   pub inside : then ≤ end
-  pub entry : x ≡ entryOf at rule
+  pub entry : x ≡ entryOf i rule
 
 -- An answer with an entry says so.
-pub got-rule : (F : List ℕ) (at end then x : ℕ) (o : Parsed Rule) (r : Entry) → r ≡ entry.Rule then x → RuleRead F at end o r → IsRule F at end then x o
-got-rule F at end then x (got u bs) r e h =
-    let w : Entered F bs u at end then x = rw e at h in
+pub got-rule : (F : List ℕ) (i at end then x : ℕ) (o : Parsed Rule) (r : Entry) → r ≡ entry.Rule then x → RuleRead F i at end o r → IsRule F i at end then x o
+got-rule F i at end then x (got u bs) r e h =
+    let w : Entered F bs u i at end then x = rw e at h in
     record { rule = u; read = ap (got u) (w .left); from = w .from; inside = w .inside; entry = w .entry }
-got-rule F at end then x (fault k) r e h = absurd (let z : ⊥ = rw e at h in z)
+got-rule F i at end then x (fault k) r e h = absurd (let z : ⊥ = rw e at h in z)
 
 -- An answer with a number of no says that it is refused.
-pub fault-rule : (F : List ℕ) (at end k : ℕ) (o : Parsed Rule) (r : Entry) → r ≡ entry.Fault k → RuleRead F at end o r → o ≡ fault k
-fault-rule F at end k (got u bs) r e h = absurd (let z : ⊥ = rw e at h in z)
-fault-rule F at end k (fault n) r e h = let z : k ≡ n = rw e at h in cc
+pub fault-rule : (F : List ℕ) (i at end k : ℕ) (o : Parsed Rule) (r : Entry) → r ≡ entry.Fault k → RuleRead F i at end o r → o ≡ fault k
+fault-rule F i at end k (got u bs) r e h = absurd (let z : ⊥ = rw e at h in z)
+fault-rule F i at end k (fault n) r e h = let z : k ≡ n = rw e at h in cc

@@ -3,30 +3,30 @@ use mathlib.Core.Path.{_≡_, refl, sym, ap, subst, _∙_}
 use mathlib.Core.List.{List, [], _∷_, _++_}
 use Prim.Native.Nat.{ℕ, _+_, _*_, _<_, _≤_}
 use native.Mathlib.Omega.{arith}
-use lib.ListN.{length, getD, take, set, length-append}
+use lib.ListN.{length, getD, take, length-append}
 use lib.Seq.{slice}
 use Rattle.machine.specs.Machine.{Row, Table}
 use Rattle.text.specs.Fields.{got, fault, andThen, pure, below}
 use Rattle.text.specs.Frames as text
 use Rattle.text.proofs.Fields.{then-got, below-inv}
 use Rattle.text.proofs.Faults.{then-fault}
-use Rattle.layout.specs.Layout.{rowFrames, headFrames, entryOf, Indexed}
-use Rattle.layout.proofs.Growing.{indexed-more}
+use Rattle.layout.specs.Layout.{rowFrames, headFrames, rowNumber}
 use Rattle.layout.proofs.Modest.{at-most}
 use Rattle.fields.proofs.Slices.{slice-none}
 use Rattle.fields.proofs.Numbers.{IsNumber}
-use Rattle.frames.specs.Staged.{AtRules, Stepped, ruleField, behindRule}
+use Rattle.frames.specs.Staged.{Appended, AtRules, Stepped, ruleField, behindRule}
 use Rattle.frames.specs.declared.Stage.{Stage}
 use Rattle.frames.specs.declared.Next.{Next}
 use Rattle.frames.specs.declared.Next.the-variants as next
 use Rattle.frames.proofs.StepFrames.{stepped-left, stepped-ready, frame-more, frame-long}
 use Rattle.frames.proofs.RuleFields.{IsRule}
-use Rattle.frames.proofs.RuleKeys.{rises-true, rises-false, before-none}
+use Rattle.frames.proofs.RuleKeys.{rises-true, rises-false}
 use Rattle.frames.proofs.RuleBytes.{row-bytes, arity-there}
 use Rattle.frames.proofs.RuleSteps.{withRule, rule-full, state-refused, symbol-refused, order-refused, fields-decide}
-use Rattle.frames.proofs.RuleStage.{head-frames, numbers-more, rows-frames}
+use Rattle.frames.proofs.RuleStage.{numbers-more, rows-frames}
+use Rattle.frames.proofs.Keeping.{noted-more}
 
-module _ {F I : List ℕ} {st : Stage} {M : Table} (a : AtRules F I st M) (at end : ℕ) where
+module _ {F R : List ℕ} {st : Stage} {M : Table} (a : AtRules F R st M) (at end : ℕ) where
   -- The table's numbers are those of the head.
   abbrev states-of : st .head .states ≡ M .states
   states-of = ap (λ h. h .states) (a .numbers .head)
@@ -97,7 +97,7 @@ module _ {F I : List ℕ} {st : Stage} {M : Table} (a : AtRules F I st M) (at en
           pub refuse-fields : (k : ℕ) → ruleField (st .head .states) n (slice from end F) ≡ fault k → text.ruleFrame M (slice at end F) ≡ fault k
           refuse-fields k e = decided ∙ then-fault _ _ k e
 
-          module _ {then x : ℕ} (r : IsRule F from end then x (ruleField (st .head .states) n (slice from end F))) where
+          module _ {then x : ℕ} (r : IsRule F (st .head .rules) from end then x (ruleField (st .head .states) n (slice from end F))) where
             -- The row that they give.
             abbrev row : Row
             row = record { state = q; symbol = f; rule = r .rule }
@@ -107,8 +107,8 @@ module _ {F I : List ℕ} {st : Stage} {M : Table} (a : AtRules F I st M) (at en
             taken = decided ∙ then-got _ _ (r .rule) (slice then end F) (r .read)
 
             -- Bytes are left over.
-            pub rule-over : (J : List ℕ) → then < end → end ≤ length F → Stepped F J (text.whole (text.ruleFrame M (slice at end F))) (next.Wrong 5)
-            rule-over J h l = stepped-left F J _ _ then end taken h l
+            pub rule-over : (S : List ℕ) → then < end → end ≤ length F → Stepped F S (text.whole (text.ruleFrame M (slice at end F))) (next.Wrong 5)
+            rule-over S h l = stepped-left F S _ _ then end taken h l
 
             module _ (whole : end ≤ then) (next-to : at ≡ st .used + 1) (start : at ≤ end) (inside : end ≤ length F) (kind : getD F (st .used) 0 ≡ 3) where
               -- No byte is left over.
@@ -122,27 +122,17 @@ module _ {F I : List ℕ} {st : Stage} {M : Table} (a : AtRules F I st M) (at en
                   ∙ ap (λ l. headFrames M ++ rowFrames (M .rows) ++ l) (row-bytes (st .head .states) (st .head .symbols) n (slice at end F) q (slice second end F) f (slice from end F) (r .rule) (slice then end F) (i .read) (j .read) (r .read) nothing-left)
                   ∙ sym (rows-frames M row)
 
-              -- The state is below 64.
-              state-small : q < 64
-              state-small = omega (arith, below-inv (M .states) (slice at end F) q (slice second end F) state-read .0, a .numbers .states)
-
               -- The rule's bytes stand three bytes behind the frames so far.
               place-is : from ≡ length (headFrames M) + length (rowFrames (M .rows)) + 3
               place-is = omega (arith, j .next, i .next, a .used, length-append (headFrames M) (rowFrames (M .rows)))
 
-              -- The index with the rule's entry.
-              index-with : length I ≡ 4096 → Indexed (set I (q * 64 + f) x) (length (headFrames (text.withRow M row))) (M .rows ++ row ∷ [])
-              index-with l =
-                  subst (λ p. Indexed (set I (q * 64 + f) x) p (M .rows ++ row ∷ [])) (ap length (sym (head-frames M row)))
-                  (subst (λ v. Indexed (set I (q * 64 + f) v) (length (headFrames M)) (M .rows ++ row ∷ [])) (ap (λ p. entryOf p (r .rule)) (sym place-is) ∙ sym (r .entry))
-                  (indexed-more I (length (headFrames M)) (M .rows) row l state-small symbol-small (before-none (M .rows) q f (st .last) (a .numbers .behind) later) (a .index)))
-
-              -- The stage behind the rule.
-              pub rule-next : length I ≡ 4096 → (o : Next) → o ≡ next.Ready (behindRule st (q * 64 + f) end) → Stepped F (set I (q * 64 + f) x) (text.whole (text.ruleFrame M (slice at end F))) o
-              rule-next l o e = stepped-ready F _ _ _ then end taken _ o (r .inside) whole (record {
+              -- The stage behind the rule, whose numbers were appended.
+              pub rule-next : (R′ : List ℕ) (y : ℕ) → Appended R R′ (st .head .rules) y x → y ≡ rowNumber from row → (o : Next)
+                  → o ≡ next.Ready (behindRule st (q * 64 + f) end) → Stepped F R′ (text.whole (text.ruleFrame M (slice at end F))) o
+              rule-next R′ y w l o e = stepped-ready F _ _ _ then end taken _ o (r .inside) whole (record {
                 phase = refl;
                 numbers = numbers-more st M row end (a .numbers) has-room symbol-small later;
                 used = frame-long F (st .used) end (omega arith) inside _ frames-with;
                 frames = frames-with;
-                index = index-with l;
+                rules = noted-more R R′ M row (st .head .rules) from y x (a .rules) w rules-of place-is l (r .entry);
               }) e

@@ -1,15 +1,14 @@
--- Places in the order of rows: which row rises over the rows so far, and that these have no rule for it.
+-- Places in the order of rows: which row rises over the rows so far.
 use mathlib.Core.Path.{_≡_, refl}
-use mathlib.Core.Bool.{Bool, true, false, _&&_}
+use mathlib.Core.Bool.{true, false}
 use mathlib.Core.List.{List, [], _∷_, _++_}
-use mathlib.Core.Option.{Option, none, some}
 use Prim.Native.Nat.{ℕ, _+_, _*_, _<_, _≤_}
 use native.Mathlib.Omega.{arith}
 use native.Mathlib.Decide.{decLt}
-use borrow.Author.Tests.{lt-ltb, le-ltb, eq-eqb, ne-eqb, eqb-true}
+use borrow.Author.Tests.{lt-ltb, le-ltb, eq-eqb, ne-eqb}
 use lib.Dec.{eqb, ltb}
-use Rattle.words.proofs.Tests.{both-hold, second-fails}
-use Rattle.machine.specs.Machine.{Rule, Row, Every, find}
+use Rattle.words.proofs.Tests.{second-fails}
+use Rattle.machine.specs.Machine.{Row, Every}
 use Rattle.text.specs.Frames.{behindRow, rises}
 use Rattle.frames.specs.Staged.{key, lastKey}
 
@@ -47,18 +46,6 @@ pub rises-false : (rows : List Row) (q f n : ℕ) → AllBefore n rows → n ≡
 rises-false [] q f n h e hf k = absurd (omega arith)
 rises-false (r ∷ []) q f n h e hf k = behind-false r q f (h .0 .0) hf (omega arith)
 rises-false (r ∷ s ∷ rows) q f n h e hf k = rises-false (s ∷ rows) q f n (h .1) e hf k
-
--- Rows before n have no rule for a place that is not.
-pub before-none : (rows : List Row) (q f n : ℕ) → AllBefore n rows → n ≤ q * 64 + f → find rows q f ≡ none
-unfolding find
-before-none [] q f n h k = refl
-before-none (r ∷ rows) q f n h k = go (eqb (r .state) q && eqb (r .symbol) f) refl (before-none rows q f n (h .1) k)
-  where
-    go : (b : Bool) → (eqb (r .state) q && eqb (r .symbol) f) ≡ b → find rows q f ≡ none → _≡_ {A = Option Rule} (elim b [ true ↦ some (r .rule) | false ↦ find rows q f ]) none
-    go true t more =
-        let d = both-hold (eqb (r .state) q) (eqb (r .symbol) f) t in
-        absurd (omega (arith, eqb-true (r .state) q (d .0), eqb-true (r .symbol) f (d .1), h .0 .1))
-    go false t more = more
 
 -- The least place behind a last row is the one behind its own.
 pub last-snoc : (rows : List Row) (r : Row) → lastKey (rows ++ r ∷ []) ≡ key r + 1

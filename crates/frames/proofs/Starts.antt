@@ -13,14 +13,14 @@ use Rattle.text.specs.Frames.{rules, startFrame}
 use Rattle.text.specs.Writing.{textOf, initialFrame}
 use Rattle.text.proofs.Fields.{then-got, within-inv, below-inv, text-inv}
 use Rattle.text.proofs.Faults.{then-fault}
-use Rattle.layout.specs.Layout.{symbolFrames, headFrames, rowFrames, entryIn, Indexed}
+use Rattle.layout.specs.Layout.{symbolFrames, headFrames, rowFrames}
 use Rattle.layout.specs.Leaves.{headOf}
 use Rattle.layout.specs.declared.Head.{Head}
 use Rattle.layout.proofs.Fit.{length-symbols}
 use Rattle.fields.proofs.Slices.{slice-none}
 use Rattle.fields.proofs.Numbers.{IsNumber}
 use Rattle.fields.proofs.Words.{IsWord}
-use Rattle.frames.specs.Staged.{AtSymbols, AtRules, behindStart}
+use Rattle.frames.specs.Staged.{kept, AtSymbols, AtRules, behindStart}
 use Rattle.frames.specs.declared.Stage.{Stage}
 use Rattle.frames.proofs.StepFrames.{frame-more, frame-long}
 
@@ -65,10 +65,10 @@ start-bytes n q u v bs r r₁ r₂ r₃ e e₁ e₂ e₃ e₄ = rw (e, e₁, e�
 
 -- ---- the table
 
--- An index that holds no entry holds none wherever the rules' frames stand.
-indexed-moved : (I : List ℕ) (p : ℕ) → Indexed I 0 [] → Indexed I p []
-unfolding entryIn
-indexed-moved I p h = h
+-- Of no rule no number is kept.
+noted-none : (p : ℕ) → _≡_ {A = List ℕ} [] (kept 0 p [])
+unfolding kept
+noted-none p = refl
 
 -- The frames before the first rule, with no rule behind them.
 head-alone : (ks : List ℕ) (n : ℕ) (u : Word) (q : ℕ) (v : Word) → symbolFrames ks ++ (2 ∷ n ∷ textOf u ++ q ∷ textOf v) ≡ headFrames (started ks n u q v) ++ rowFrames []
@@ -85,7 +85,7 @@ head-same : (a n q b c d : ℕ) (M : Table) → a ≡ headOf M .symbols → n �
     → _≡_ {A = Head} (record { symbols = a; states = n; start = q; before = b; after = c; rows = d; rules = 0 }) (headOf M)
 head-same a n q b c d M e₁ e₂ e₃ e₄ e₅ e₆ e₇ = rw (e₁, e₂, e₃, e₄, e₅, e₆, e₇)
 
-module _ {F I : List ℕ} {st : Stage} {ks : List ℕ} (z : AtSymbols F I st ks) (kind : getD F (st .used) 0 ≡ 2) (at end n b u′ s q c v′ then : ℕ)
+module _ {F : List ℕ} {st : Stage} {ks : List ℕ} (z : AtSymbols F st ks) (kind : getD F (st .used) 0 ≡ 2) (at end n b u′ s q c v′ then : ℕ)
     (place : at ≡ st .used + 1) (inside : end ≤ length F)
     (i : IsNumber F at end n b (within 1 statesMost (slice at end F)))
     (i₁ : IsWord F b end u′ s (text (slice b end F)))
@@ -114,8 +114,8 @@ module _ {F I : List ℕ} {st : Stage} {ks : List ℕ} (z : AtSymbols F I st ks)
   start-all = frame-more F (st .used) end start-some inside _ _ 2 (z .frames) kind start-fields ∙ head-alone ks n u q v
 
   -- The table with no rule yet, of a frame that is read to its end.
-  pub start-staged : AtRules F I (behindStart (st .head .symbols) n q b c end) (started ks n u q v)
-  start-staged =
+  pub start-staged : (R : List ℕ) → AtRules F R (behindStart (st .head .symbols) n q b c end) (started ks n u q v)
+  start-staged R =
       let l : end ≡ length (headFrames (started ks n u q v) ++ rowFrames []) = frame-long F (st .used) end start-some inside _ start-all in
       let p = length-symbols ks in
       record {
@@ -131,12 +131,12 @@ module _ {F I : List ℕ} {st : Stage} {ks : List ℕ} (z : AtSymbols F I st ks)
         };
         used = l;
         frames = start-all;
-        index = indexed-moved I (length (headFrames (started ks n u q v))) (z .index);
+        rules = noted-none (length (headFrames (started ks n u q v)));
       }
 
 -- ---- the beginning
 
 -- No symbol yet.
-pub begin-staged : (F I : List ℕ) (st : Stage) → st .phase ≡ 0 → st .head .symbols ≡ 0 → st .used ≡ 0 → Indexed I 0 [] → AtSymbols F I st []
+pub begin-staged : (F : List ℕ) (st : Stage) → st .phase ≡ 0 → st .head .symbols ≡ 0 → st .used ≡ 0 → AtSymbols F st []
 unfolding symbolFrames
-begin-staged F I st e₁ e₂ e₃ h = record { phase = e₁; symbols = e₂; few = omega arith; small = tt; used = e₃; frames = ap (λ n. take n F) e₃; index = h }
+begin-staged F st e₁ e₂ e₃ = record { phase = e₁; symbols = e₂; few = omega arith; small = tt; used = e₃; frames = ap (λ n. take n F) e₃ }

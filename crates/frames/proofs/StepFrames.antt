@@ -16,22 +16,22 @@ use Rattle.frames.specs.declared.Stage.{Stage}
 use Rattle.frames.specs.declared.Next.{Next}
 use Rattle.frames.specs.declared.Next.the-variants as next
 
-module _ (F I : List ℕ) (p : Parsed text.Stage) where
+module _ (F R : List ℕ) (p : Parsed text.Stage) where
   -- A number of no is answered.
-  pub stepped-wrong : (k : ℕ) (r : Next) → p ≡ fault k → r ≡ next.Wrong k → Stepped F I (text.whole p) r
+  pub stepped-wrong : (k : ℕ) (r : Next) → p ≡ fault k → r ≡ next.Wrong k → Stepped F R (text.whole p) r
   stepped-wrong k r e f = rw (e, f) refl
 
   -- The number of a field that is refused is answered.
-  pub stepped-fault : (k : ℕ) (f : Field) (r : Next) → p ≡ fault k → f ≡ field.Fault k → r ≡ next.Wrong (faultOf f) → Stepped F I (text.whole p) r
+  pub stepped-fault : (k : ℕ) (f : Field) (r : Next) → p ≡ fault k → f ≡ field.Fault k → r ≡ next.Wrong (faultOf f) → Stepped F R (text.whole p) r
   stepped-fault k f r e g h = rw (e, h, g) refl
 
   module _ (s : text.Stage) (then end : ℕ) (e : p ≡ got s (slice then end F)) where
     -- Bytes are left over.
-    pub stepped-left : then < end → end ≤ length F → Stepped F I (text.whole p) (next.Wrong 5)
+    pub stepped-left : then < end → end ≤ length F → Stepped F R (text.whole p) (next.Wrong 5)
     stepped-left h k = rw (e, slice-cons then end F 0 h k) refl
 
     -- The frame is read to its end.
-    pub stepped-ready : (st : Stage) (r : Next) → then ≤ end → end ≤ then → Staged F I st s → r ≡ next.Ready st → Stepped F I (text.whole p) r
+    pub stepped-ready : (st : Stage) (r : Next) → then ≤ end → end ≤ then → Staged F R st s → r ≡ next.Ready st → Stepped F R (text.whole p) r
     stepped-ready st r h k d f = rw (e, f, slice-none F then end (omega arith)) d
 
 module _ (F : List ℕ) (used end : ℕ) (h : used < end) (k : end ≤ length F) where

@@ -40,10 +40,10 @@ module _ (ks bs : List ℕ) (h : length ks < symbolsMost) where
 
 -- ---- one symbol more
 
-module _ {F I : List ℕ} {st : Stage} {ks : List ℕ} (d : AtSymbols F I st ks) (kind : getD F (st .used) 0 ≡ 1) where
+module _ {F : List ℕ} {st : Stage} {ks : List ℕ} (d : AtSymbols F st ks) (kind : getD F (st .used) 0 ≡ 1) where
   -- The symbols with the one of a frame that is read to its end.
   pub symbol-staged : (at end a then : ℕ) (st′ : Stage) → at ≡ st .used + 1 → end ≤ length F → length ks < symbolsMost → IsNumber F at end a then (within 0 arityMost (slice at end F)) → end ≤ then
-      → st′ .phase ≡ 0 → st′ .head .symbols ≡ st .head .symbols + 1 → st′ .used ≡ end → AtSymbols F I st′ (ks ++ a ∷ [])
+      → st′ .phase ≡ 0 → st′ .head .symbols ≡ st .head .symbols + 1 → st′ .used ≡ end → AtSymbols F st′ (ks ++ a ∷ [])
   symbol-staged at end a then st′ e k m i h e₁ e₂ e₃ =
       let x = within-inv 0 arityMost (slice at end F) a (slice then end F) (i .read) in
       let y : slice (st .used + 1) end F ≡ a ∷ [] = ap (λ n. slice n end F) (sym e) ∙ x .2 ∙ ap (λ r. a ∷ r) (slice-none F then end (omega (arith, i .inside))) in
@@ -55,5 +55,4 @@ module _ {F I : List ℕ} {st : Stage} {ks : List ℕ} (d : AtSymbols F I st ks)
         small = most-append arityMost ks (a ∷ []) (d .small) (x .1, tt);
         used = e₃ ∙ frame-long F (st .used) end (omega (arith, i .inside, i .next)) k _ f;
         frames = ap (λ n. take n F) e₃ ∙ f;
-        index = d .index;
       }

@@ -1,15 +1,15 @@
 -- How far the reader is, in numbers, and the stage of the definition that it stands for. Definitions only.
 use mathlib.Core.Path.{_≡_}
 use mathlib.Core.List.{List, [], _∷_, _++_}
-use Prim.Native.Nat.{ℕ, _+_, _*_, _<_, _≤_}
+use Prim.Native.Nat.{ℕ, suc, _+_, _*_, _<_, _≤_}
 use lib.ListN.{length, take}
 use lib.Seq.{slice}
 use Rattle.machine.specs.Machine.{Rule, Row, Table, Every}
 use Rattle.text.specs.Frames as frames
 use Rattle.text.specs.Fields as fields
 use Rattle.text.specs.Fields.{Parsed, got, fault, _>>=_, pure}
-use Rattle.text.specs.Writing.{AtMost}
-use Rattle.layout.specs.Layout.{symbolFrames, rowFrames, headFrames, framesOf, entryOf, Indexed}
+use Rattle.text.specs.Writing.{rowFrame, AtMost}
+use Rattle.layout.specs.Layout.{symbolFrames, rowFrames, headFrames, framesOf, entryOf, rowNumber}
 use Rattle.layout.specs.Leaves.{headOf}
 use Rattle.layout.specs.declared.Head.{Head}
 use Rattle.frames.specs.declared.Stage.{Stage}
@@ -28,15 +28,29 @@ lastKey [] = 0
 lastKey (r ∷ []) = key r + 1
 lastKey (r ∷ s ∷ rs) = lastKey (s ∷ rs)
 
+-- What is kept of the rows while they are read, two numbers for each, where the first has number i and their frames stand from p on:
+-- its number as a row, and what is kept for its state and symbol. A rule's bytes stand behind kind, state and symbol.
+unfoldable pub kept : ℕ → ℕ → List Row → List ℕ
+kept i p [] = []
+kept i p (r ∷ rs) = rowNumber (p + 3) r ∷ entryOf i (r .rule) ∷ kept (suc i) (p + length (rowFrame r)) rs
+
+-- The list R begins with the two numbers of each row of M.
+abbrev pub Noted : List ℕ → Table → Type 0
+Noted R M = take (2 * length (M .rows)) R ≡ kept 0 (length (headFrames M)) (M .rows)
+
+-- The two numbers x and y of rule number i stand behind those before it, which are as they were.
+pub record Appended (R R′ : List ℕ) (i x y : ℕ) : Type 0 where
+  pub long : length R′ ≡ length R
+  pub behind : take (2 * (i + 1)) R′ ≡ take (2 * i) R ++ x ∷ y ∷ []
+
 -- The symbols so far have been read.
-pub record AtSymbols (F I : List ℕ) (st : Stage) (arities : List ℕ) : Type 0 where
+pub record AtSymbols (F : List ℕ) (st : Stage) (arities : List ℕ) : Type 0 where
   pub phase : st .phase ≡ 0
   pub symbols : st .head .symbols ≡ length arities
   pub few : length arities ≤ 64
   pub small : AtMost 4 arities
   pub used : st .used ≡ length (symbolFrames arities)
   pub frames : take (st .used) F ≡ symbolFrames arities
-  pub index : Indexed I 0 []
 
 -- What is known of the numbers of a table whose rules are being read.
 pub record Numbers (st : Stage) (M : Table) : Type 0 where
@@ -49,33 +63,33 @@ pub record Numbers (st : Stage) (M : Table) : Type 0 where
   pub last : st .last ≡ lastKey (M .rows)
 
 -- The initial rule and the rules so far have been read.
-pub record AtRules (F I : List ℕ) (st : Stage) (M : Table) : Type 0 where
+pub record AtRules (F R : List ℕ) (st : Stage) (M : Table) : Type 0 where
   pub phase : st .phase ≡ 1
   pub numbers : Numbers st M
   pub used : st .used ≡ length (headFrames M ++ rowFrames (M .rows))
   pub frames : take (st .used) F ≡ headFrames M ++ rowFrames (M .rows)
-  pub index : Indexed I (length (headFrames M)) (M .rows)
+  pub rules : Noted R M
 
 -- The end frame has been read.
-pub record AtEnd (F I : List ℕ) (st : Stage) (M : Table) : Type 0 where
+pub record AtEnd (F R : List ℕ) (st : Stage) (M : Table) : Type 0 where
   pub phase : st .phase ≡ 2
   pub head : st .head ≡ headOf M
   pub used : st .used ≡ length (framesOf M)
   pub frames : take (st .used) F ≡ framesOf M
-  pub index : Indexed I (length (headFrames M)) (M .rows)
+  pub rules : Noted R M
 
--- The reader's numbers st, with the bytes F and the entries I, stand for a stage of the definition.
+-- The reader's numbers st, with the bytes F and the numbers R of the rules, stand for a stage of the definition.
 abbrev pub Staged : List ℕ → List ℕ → Stage → frames.Stage → Type 0
-Staged F I st (frames.symbols arities) = AtSymbols F I st arities
-Staged F I st (frames.rules M) = AtRules F I st M
-Staged F I st (frames.ended M) = AtEnd F I st M
+Staged F R st (frames.symbols arities) = AtSymbols F st arities
+Staged F R st (frames.rules M) = AtRules F R st M
+Staged F R st (frames.ended M) = AtEnd F R st M
 
 -- What a frame's reading answers: the next stage, or the number of no.
 abbrev pub Stepped : List ℕ → List ℕ → frames.Step → Next → Type 0
-Stepped F I (frames.next s) (next.Ready st) = Staged F I st s
-Stepped F I (frames.next s) (next.Wrong n) = ⊥
-Stepped F I (frames.wrong k) (next.Ready st) = ⊥
-Stepped F I (frames.wrong k) (next.Wrong n) = n ≡ k
+Stepped F R (frames.next s) (next.Ready st) = Staged F R st s
+Stepped F R (frames.next s) (next.Wrong n) = ⊥
+Stepped F R (frames.wrong k) (next.Ready st) = ⊥
+Stepped F R (frames.wrong k) (next.Wrong n) = n ≡ k
 
 -- The stage behind frame 02, which ends at `end`: no rule yet.
 abbrev pub behindStart : ℕ → ℕ → ℕ → ℕ → ℕ → ℕ → Stage
@@ -97,18 +111,18 @@ ruleField states k = do
   cs ← fields.children states k
   pure (record { first = u; rest = cs })
 
--- A rule's number for the index, and where the next field stands.
-pub record Entered (F bs : List ℕ) (r : Rule) (at end then x : ℕ) : Type 0 where
+-- What is kept for the state and the symbol of rule number i, and where the next field stands.
+pub record Entered (F bs : List ℕ) (r : Rule) (i at end then x : ℕ) : Type 0 where
   pub left : bs ≡ slice then end F
   pub from : at ≤ then
   pub inside : then ≤ end
-  pub entry : x ≡ entryOf at r
+  pub entry : x ≡ entryOf i r
 
-abbrev pub RuleRead : List ℕ → ℕ → ℕ → Parsed Rule → Entry → Type 0
-RuleRead F at end (got r bs) (entry.Rule then x) = Entered F bs r at end then x
-RuleRead F at end (got r bs) (entry.Fault n) = ⊥
-RuleRead F at end (fault k) (entry.Rule then x) = ⊥
-RuleRead F at end (fault k) (entry.Fault n) = n ≡ k
+abbrev pub RuleRead : List ℕ → ℕ → ℕ → ℕ → Parsed Rule → Entry → Type 0
+RuleRead F i at end (got r bs) (entry.Rule then x) = Entered F bs r i at end then x
+RuleRead F i at end (got r bs) (entry.Fault n) = ⊥
+RuleRead F i at end (fault k) (entry.Rule then x) = ⊥
+RuleRead F i at end (fault k) (entry.Fault n) = n ≡ k
 
 -- The refusal that a rule's fields give.
 abbrev pub refusedBy : Entry → Next

@@ -4,14 +4,14 @@ use fields::Kids;
 use layout::Head;
 ghost use mathlib.Core.Path.{_≡_};
 ghost use mathlib.Core.List.{List, []};
-ghost use Prim.Native.Nat.{ℕ, _+_, _*_, _<_, _≤_};
+ghost use Prim.Native.Nat.{ℕ, _+_, _*_, _^_, _<_, _≤_};
 ghost use lib.ListN.{length, getD};
 ghost use lib.Seq.{slice};
 ghost use Rattle.machine.specs.Machine.{Table};
-ghost use Rattle.layout.specs.Layout.{Indexed};
 ghost use Rattle.text.specs.Frames as text;
 ghost use Rattle.fields.specs.Read.{faultOf};
-ghost use Rattle.frames.specs.Staged.{AtSymbols, AtRules, Staged, Stepped, ruleField, RuleRead, refusedBy, numberOf, behindStart, behindRule};
+ghost use Rattle.frames.specs.Staged.{AtSymbols, AtRules, Staged, Stepped, ruleField, RuleRead, Appended};
+ghost use Rattle.frames.specs.Staged.{refusedBy, numberOf, behindStart, behindRule};
 
 // How far the reader is: 0 while it reads symbols, 1 rules, 2 behind the end frame; the table's
 // numbers so far; the least place in the order of rules for the next one; how many bytes are used.
@@ -41,8 +41,8 @@ fn fault(field: Field) -> Next
 // Frame 01: arity. Its fields stand from `at` to `end`, behind the kind.
 fn symbol_frame(st: Stage, frames: &[u8], at: usize, end: usize) -> Next
     requires { ⌜ (at ≡ st .used + 1) × (at ≤ end) × (end ≤ length (now frames)) ⌝ }
-    ensures { λ r. ⌜ ((I arities : List ℕ) → AtSymbols (now (frames .entry)) I st arities → getD (now (frames .entry)) (st .used) 0 ≡ 1
-        → Stepped (now (frames .entry)) I (text.whole (text.symbolFrame arities (slice at end (now (frames .entry))))) r) ⌝ }
+    ensures { λ r. ⌜ ((R arities : List ℕ) → AtSymbols (now (frames .entry)) st arities → getD (now (frames .entry)) (st .used) 0 ≡ 1
+        → Stepped (now (frames .entry)) R (text.whole (text.symbolFrame arities (slice at end (now (frames .entry))))) r) ⌝ }
 {
     let old = st.head;
     let symbols = old.symbols;
@@ -96,8 +96,8 @@ fn started(
 // Frame 02: number of states, word u0, state, word u1.
 fn start_frame(st: Stage, frames: &[u8], at: usize, end: usize) -> Next
     requires { ⌜ (at ≡ st .used + 1) × (at ≤ end) × (end ≤ length (now frames)) ⌝ }
-    ensures { λ r. ⌜ ((I arities : List ℕ) → AtSymbols (now (frames .entry)) I st arities → getD (now (frames .entry)) (st .used) 0 ≡ 2
-        → Stepped (now (frames .entry)) I (text.whole (text.startFrame arities (slice at end (now (frames .entry))))) r) ⌝ }
+    ensures { λ r. ⌜ ((R arities : List ℕ) → AtSymbols (now (frames .entry)) st arities → getD (now (frames .entry)) (st .used) 0 ≡ 2
+        → Stepped (now (frames .entry)) R (text.whole (text.startFrame arities (slice at end (now (frames .entry))))) r) ⌝ }
 {
     let old = st.head;
     let count = fields::within(frames, at, end, 1, 64);
@@ -134,26 +134,26 @@ fn start_frame(st: Stage, frames: &[u8], at: usize, end: usize) -> Next
     started(old.symbols, states, start, before, after, end)
 }
 
-// The index's number of a rule, and where the next field stands; or a number of no.
+// What is kept for a rule's state and symbol, and where the next field stands; or a number of no.
 pub enum Entry {
     Rule { next: usize, entry: u64 },
     Fault { number: u8 },
 }
 
-// The index's number of a rule whose bytes stand at `at`.
-fn pack(at: usize, letters: usize, packed: u64) -> u64
-    requires { ⌜ (at < 16384) × (letters ≤ 160) × (packed < 144115188075855872) ⌝ }
-    ensures { λ r. ⌜ r ≡ letters + 256 * at + packed ⌝ }
+// What is kept for the state and the symbol of rule number i.
+fn pack(i: usize, letters: usize, packed: u64) -> u64
+    requires { ⌜ (i < 512) × (letters ≤ 160) × (packed < 5 * 2 ^ 61) ⌝ }
+    ensures { λ r. ⌜ r ≡ letters + 256 + 512 * i + packed ⌝ }
 {
-    (letters as u64) + 256 * (at as u64) + packed
+    (letters as u64) + 256 + 512 * (i as u64) + packed
 }
 
-// A rule's fields behind its symbol, which stand from `at` to `end`: the word u0, then for each of
-// `count` children its state and a word.
-fn rule_fields(frames: &[u8], at: usize, end: usize, states: usize, count: usize) -> Entry
-    requires { ⌜ (at ≤ end) × (end ≤ 16384) × (end ≤ length (now frames)) ⌝ }
+// The fields of rule number i behind its symbol, which stand from `at` to `end`: the word u0, then
+// for each of `count` children its state and a word.
+fn rule_fields(frames: &[u8], i: usize, at: usize, end: usize, states: usize, count: usize) -> Entry
+    requires { ⌜ (i < 512) × (at ≤ end) × (end ≤ length (now frames)) ⌝ }
     requires { ⌜ (states ≤ 64) × (count ≤ 4) ⌝ }
-    ensures { λ r. ⌜ RuleRead (now (frames .entry)) at end (ruleField states count (slice at end (now (frames .entry)))) r ⌝ }
+    ensures { λ r. ⌜ RuleRead (now (frames .entry)) i at end (ruleField states count (slice at end (now (frames .entry)))) r ⌝ }
 {
     let first = fields::word(frames, at, end);
     let Field::Got {
@@ -178,7 +178,7 @@ fn rule_fields(frames: &[u8], at: usize, end: usize, states: usize, count: usize
     };
     Entry::Rule {
         next,
-        entry: pack(at, n + more, packed),
+        entry: pack(i, n + more, packed),
     }
 }
 
@@ -207,18 +207,35 @@ fn behind_rule(st: Stage, key: usize, end: usize) -> Next
     })
 }
 
-// Frame 03: state, symbol, and the rule's fields. The rule's number goes into the index.
-fn rule_frame(st: Stage, frames: &[u8], index: &mut [u64], at: usize, end: usize) -> Next
-    requires { ⌜ (at ≡ st .used + 1) × (at ≤ end) × (end ≤ 16384) × (end ≤ length (now frames)) × (length (now index) ≡ 4096) ⌝ }
+// What is kept of a rule by its number: where its bytes stand, its symbol, its state.
+fn row_number(at: usize, symbol: usize, state: usize) -> u64
+    requires { ⌜ (at ≤ 16384) × (symbol < 64) × (state < 64) ⌝ }
+    ensures { λ r. ⌜ r ≡ at + 2 ^ 17 * symbol + 2 ^ 23 * state ⌝ }
+{
+    (at as u64) + 131072 * (symbol as u64) + 8388608 * (state as u64)
+}
+
+// Puts the two numbers of rule number i behind those of the rules before it.
+fn append(rules: &mut [u64], i: usize, row: u64, entry: u64)
+    requires { ⌜ (i < 512) × (length (now rules) ≡ 1024) ⌝ }
+    ensures { λ _. ⌜ Appended (now (rules .entry)) (now (rules .exit)) i row entry ⌝ }
+{
+    rules[2 * i] = row;
+    rules[2 * i + 1] = entry;
+}
+
+// Frame 03: state, symbol, and the rule's fields. The rule's two numbers go behind those before it.
+fn rule_frame(st: Stage, frames: &[u8], rules: &mut [u64], at: usize, end: usize) -> Next
+    requires { ⌜ (at ≡ st .used + 1) × (at ≤ end) × (end ≤ 16384) × (end ≤ length (now frames)) × (length (now rules) ≡ 1024) ⌝ }
     requires { ⌜ (st .head .states ≤ 64) × (st .head .symbols ≤ 64) ⌝ }
-    ensures { λ r. ⌜ ((M : Table) → AtRules (now (frames .entry)) (now (index .entry)) st M → getD (now (frames .entry)) (st .used) 0 ≡ 3
-        → Stepped (now (frames .entry)) (now (index .exit)) (text.whole (text.ruleFrame M (slice at end (now (frames .entry))))) r) ⌝ }
-    ensures { λ _. ⌜ length (now (index .exit)) ≡ 4096 ⌝ }
+    ensures { λ r. ⌜ ((M : Table) → AtRules (now (frames .entry)) (now (rules .entry)) st M → getD (now (frames .entry)) (st .used) 0 ≡ 3
+        → Stepped (now (frames .entry)) (now (rules .exit)) (text.whole (text.ruleFrame M (slice at end (now (frames .entry))))) r) ⌝ }
+    ensures { λ _. ⌜ length (now (rules .exit)) ≡ 1024 ⌝ }
 {
     let old = st.head;
-    let rules = old.rules;
+    let count = old.rules;
     let states = old.states;
-    if 512 <= rules {
+    if 512 <= count {
         return Next::Wrong { number: 4 };
     }
     let first = fields::below(frames, at, end, states);
@@ -246,22 +263,22 @@ fn rule_frame(st: Stage, frames: &[u8], index: &mut [u64], at: usize, end: usize
     if 4 < arity {
         return Next::Wrong { number: 4 };
     }
-    let rule = rule_fields(frames, from, end, states, arity);
+    let rule = rule_fields(frames, count, from, end, states, arity);
     let Entry::Rule { next, entry } = rule else {
         return refused_by(rule);
     };
     if next < end {
         return Next::Wrong { number: 5 };
     }
-    index[key] = entry;
+    append(rules, count, row_number(from, f, q), entry);
     behind_rule(st, key, end)
 }
 
 // Frame 04: nothing more; the end.
 fn end_frame(st: Stage, at: usize, end: usize) -> Next
     requires { ⌜ (at ≡ st .used + 1) × (at ≤ end) ⌝ }
-    ensures { λ r. ⌜ ((F I : List ℕ) (M : Table) → AtRules F I st M → getD F (st .used) 0 ≡ 4 → end ≤ length F
-        → Stepped F I (text.whole (text.endFrame M (slice at end F))) r) ⌝ }
+    ensures { λ r. ⌜ ((F R : List ℕ) (M : Table) → AtRules F R st M → getD F (st .used) 0 ≡ 4 → end ≤ length F
+        → Stepped F R (text.whole (text.endFrame M (slice at end F))) r) ⌝ }
 {
     if at < end {
         return Next::Wrong { number: 5 };
@@ -276,12 +293,12 @@ fn end_frame(st: Stage, at: usize, end: usize) -> Next
 }
 
 // What a frame of n bytes, which stand behind those that are used, makes of the stage.
-pub fn step(st: Stage, frames: &[u8], index: &mut [u64], n: usize) -> Next
-    requires { ⌜ (st .used + n ≤ 16384) × (length (now frames) ≡ 16448) × (length (now index) ≡ 4096) ⌝ }
+pub fn step(st: Stage, frames: &[u8], rules: &mut [u64], n: usize) -> Next
+    requires { ⌜ (st .used + n ≤ 16384) × (length (now frames) ≡ 16448) × (length (now rules) ≡ 1024) ⌝ }
     requires { ⌜ (st .phase ≡ 1 → (st .head .states ≤ 64) × (st .head .symbols ≤ 64)) ⌝ }
-    ensures { λ r. ⌜ ((s : text.Stage) → Staged (now (frames .entry)) (now (index .entry)) st s
-        → Stepped (now (frames .entry)) (now (index .exit)) (text.step s (slice (st .used) (st .used + n) (now (frames .entry)))) r) ⌝ }
-    ensures { λ _. ⌜ length (now (index .exit)) ≡ 4096 ⌝ }
+    ensures { λ r. ⌜ ((s : text.Stage) → Staged (now (frames .entry)) (now (rules .entry)) st s
+        → Stepped (now (frames .entry)) (now (rules .exit)) (text.step s (slice (st .used) (st .used + n) (now (frames .entry)))) r) ⌝ }
+    ensures { λ _. ⌜ length (now (rules .exit)) ≡ 1024 ⌝ }
 {
     if n == 0 {
         return Next::Wrong { number: 2 };
@@ -308,7 +325,7 @@ pub fn step(st: Stage, frames: &[u8], index: &mut [u64], n: usize) -> Next
         }
         3 => {
             if phase == 1 {
-                rule_frame(st, frames, index, at, end)
+                rule_frame(st, frames, rules, at, end)
             } else {
                 Next::Wrong { number: 3 }
             }
@@ -326,7 +343,7 @@ pub fn step(st: Stage, frames: &[u8], index: &mut [u64], n: usize) -> Next
 
 // The stage at the beginning of a text: no symbol yet.
 pub fn start() -> Stage
-    ensures { λ r. ⌜ ((F I : List ℕ) → Indexed I 0 [] → Staged F I r (text.symbols [])) ⌝ }
+    ensures { λ r. ⌜ ((F R : List ℕ) → Staged F R r (text.symbols [])) ⌝ }
     ensures { λ r. ⌜ r .used ≡ 0 ⌝ }
 {
     Stage {

@@ -27,14 +27,14 @@ takes-decoded s frame s′ (row M r e f g h) = rw (e, f, g) (ap (λ x. symbolFra
 takes-decoded s frame s′ (end M e f g) = rw (e, f, g)
 
 -- The reader uses as many bytes as are decoded.
-staged-used : (F I : List ℕ) (st : Stage) (s : text.Stage) → Staged F I st s → st .used ≡ length (decoded s)
+staged-used : (F R : List ℕ) (st : Stage) (s : text.Stage) → Staged F R st s → st .used ≡ length (decoded s)
 unfolding decoded
-staged-used F I st (symbols ks) d = d .used
-staged-used F I st (rules M) d = d .used
-staged-used F I st (ended M) d = d .used
+staged-used F R st (symbols ks) d = d .used
+staged-used F R st (rules M) d = d .used
+staged-used F R st (ended M) d = d .used
 
 -- A frame that is read uses its bytes.
-pub used-more : (F I F′ I′ : List ℕ) (st st′ : Stage) (s s′ : text.Stage) (frame : List ℕ) → AtMost 255 frame → text.step s frame ≡ text.next s′ → Staged F I st s → Staged F′ I′ st′ s′
+pub used-more : (F R F′ R′ : List ℕ) (st st′ : Stage) (s s′ : text.Stage) (frame : List ℕ) → AtMost 255 frame → text.step s frame ≡ text.next s′ → Staged F R st s → Staged F′ R′ st′ s′
     → st′ .used ≡ st .used + length frame
-used-more F I F′ I′ st st′ s s′ frame h e d d′ =
-    staged-used F′ I′ st′ s′ d′ ∙ ap length (takes-decoded s frame s′ (step-takes s frame s′ h e)) ∙ length-append (decoded s) frame ∙ ap (λ n. n + length frame) (sym (staged-used F I st s d))
+used-more F R F′ R′ st st′ s s′ frame h e d d′ =
+    staged-used F′ R′ st′ s′ d′ ∙ ap length (takes-decoded s frame s′ (step-takes s frame s′ h e)) ∙ length-append (decoded s) frame ∙ ap (λ n. n + length frame) (sym (staged-used F R st s d))

@@ -1,59 +1,82 @@
--- One text has one answer: two answers that meet the contract of opening are the same, with the same lent bytes and entries.
-use mathlib.Core.Path.{_≡_, refl, sym, ap, ap₂, _∙_}
-use mathlib.Core.Bool.{Bool, true, false}
-use mathlib.Core.List.{List, _++_}
-use Prim.Native.Nat.{ℕ, _+_, _*_, _/_, _%_, _<_}
+-- One text and one lent room have one answer: two answers that meet the contract of opening are the same, with the same bytes and numbers.
+use mathlib.Core.Path.{_≡_, sym, ap, ap₂, _∙_}
+use mathlib.Core.List.{List}
+use Prim.Native.Nat.{ℕ, zero, suc, _+_, _*_, _-_, _/_, _%_, _<_, _≤_}
 use native.Mathlib.Omega.{arith}
-use borrow.Author.Tests.{ltb-true, ltb-false}
-use lib.Dec.{ltb}
-use lib.ListN.{length, getD, List·getD-append}
+use native.Mathlib.Decide.{decLt}
+use lib.ListN.{length, getD}
 use lib.Seq.{ext-getD}
 use Rattle.words.specs.Reply.{Reply, given, refused}
 use Rattle.machine.specs.Machine.{Table}
-use Rattle.layout.specs.Layout.{framesOf, Indexed, indexSize, Opened}
+use Rattle.layout.specs.Layout.{HeadIn, Opened}
 use Rattle.layout.specs.declared.Refusal.{Refusal}
-use Rattle.table.specs.Opening.{BlankFrom, Opens, Unchanged}
+use Rattle.table.specs.Opening.{Opens, Beyond, Unchanged}
 use Rattle.table.specs.declared.Opening.{Opening}
 use Rattle.table.specs.declared.Opening.the-variants as opening
 
--- Bytes that begin alike, and have nothing but 0 behind that, are the same at each place.
-blank-same : (G B C : List ℕ) (i : ℕ) → BlankFrom (G ++ B) (length G) → BlankFrom (G ++ C) (length G) → getD (G ++ B) i 0 ≡ getD (G ++ C) i 0
-blank-same G B C i y z = go (ltb i (length G)) refl
-  where
-    go : (b : Bool) → ltb i (length G) ≡ b → getD (G ++ B) i 0 ≡ getD (G ++ C) i 0
-    go true e = List·getD-append G B 0 i (ltb-true i (length G) e) ∙ sym (List·getD-append G C 0 i (ltb-true i (length G) e))
-    go false e = y i (ltb-false i (length G) e) ∙ sym (z i (ltb-false i (length G) e))
+-- Two heads of one table are the same.
+head-same : {I J : List ℕ} {M : Table} → HeadIn I M → HeadIn J M → (k : ℕ) → k < 6 → getD I k 0 ≡ getD J k 0
+head-same a b zero l = a .symbols ∙ sym (b .symbols)
+head-same a b (suc zero) l = a .states ∙ sym (b .states)
+head-same a b (suc (suc zero)) l = a .start ∙ sym (b .start)
+head-same a b (suc (suc (suc zero))) l = a .rules ∙ sym (b .rules)
+head-same a b (suc (suc (suc (suc zero)))) l = a .before ∙ sym (b .before)
+head-same a b (suc (suc (suc (suc (suc zero))))) l = a .after ∙ sym (b .after)
+head-same a b (suc (suc (suc (suc (suc (suc k)))))) l = absurd (omega arith)
 
--- Entries that hold the same rows are the same at each place.
-indexed-same : (I J : List ℕ) (p : ℕ) (M : Table) → Indexed I p (M .rows) → Indexed J p (M .rows) → (i : ℕ) → i < indexSize → getD I i 0 ≡ getD J i 0
-indexed-same I J p M x y i h =
-    let e : i / 64 * 64 + i % 64 ≡ i = omega arith in
-    let q : i / 64 < 64 = omega arith in
-    let f : i % 64 < 64 = omega arith in
-    ap (λ k. getD I k 0) (sym e) ∙ x (i / 64) (i % 64) q f ∙ sym (y (i / 64) (i % 64) q f) ∙ ap (λ k. getD J k 0) e
+module _ {F F′ I I₁ I₂ : List ℕ} {M : Table} (a : Opened F I₁ M) (b : Opened F′ I₂ M) (x : Beyond I I₁ M) (y : Beyond I I₂ M) where
+  -- The head and the two places behind it are the same.
+  front-same : (k : ℕ) → k < 8 → Dec (k < 6) → getD I₁ k 0 ≡ getD I₂ k 0
+  front-same k l (yes h) = head-same (a .head) (b .head) k h
+  front-same k l (no h) = x .blank k (omega arith) l ∙ sym (y .blank k (omega arith) l)
 
-module _ (F I F′ I′ : List ℕ) (M : Table) (o : Opened F I M) (o′ : Opened F′ I′ M) where
-  -- The bytes of an opened table are settled where nothing but 0 stands behind its frames.
-  opened-bytes : BlankFrom F (length (framesOf M)) → BlankFrom F′ (length (framesOf M)) → F ≡ F′
-  opened-bytes y z =
-      ext-getD 0 F F′ (o .bytes ∙ sym (o′ .bytes)) λ i h.
-      ap (λ x. getD x i 0) (o .frames)
-      ∙ blank-same (framesOf M) (o .behind) (o′ .behind) i (rw (o .frames) at y) (rw (o′ .frames) at z)
-      ∙ ap (λ x. getD x i 0) (sym (o′ .frames))
+  -- The states' first rules are, and what stands behind them.
+  firsts-same : (k : ℕ) → 8 ≤ k → k < 80 → Dec (8 + M .states < k) → getD I₁ k 0 ≡ getD I₂ k 0
+  firsts-same k l m (yes h) = x .firsts k h m ∙ sym (y .firsts k h m)
+  firsts-same k l m (no h) =
+      let e : k ≡ 8 + (k - 8) = omega arith in
+      let q : k - 8 ≤ M .states = omega arith in
+      ap (λ n. getD I₁ n 0) e ∙ a .firsts (k - 8) q ∙ sym (b .firsts (k - 8) q) ∙ ap (λ n. getD I₂ n 0) (sym e)
 
-  -- Its entries are settled.
-  opened-entries : I ≡ I′
-  opened-entries = ext-getD 0 I I′ (o .entries ∙ sym (o′ .entries)) λ i h. indexed-same I I′ _ M (o .index) (o′ .index) i (omega (arith, o .entries))
+  -- The rows' numbers are, and what stands behind them.
+  rows-same : (k : ℕ) → 80 ≤ k → k < 592 → Dec (k < 80 + length (M .rows)) → getD I₁ k 0 ≡ getD I₂ k 0
+  rows-same k l m (yes h) =
+      let e : k ≡ 80 + (k - 80) = omega arith in
+      let i : k - 80 < length (M .rows) = omega arith in
+      ap (λ n. getD I₁ n 0) e ∙ a .listed (k - 80) i ∙ sym (b .listed (k - 80) i) ∙ ap (λ n. getD I₂ n 0) (sym e)
+  rows-same k l m (no h) = x .rules k (omega arith) m ∙ sym (y .rules k (omega arith) m)
+
+  -- What is kept for states and symbols is, and what stands behind it.
+  grid-same : (k : ℕ) → 592 ≤ k → Dec (k < 592 + M .states * 64) → getD I₁ k 0 ≡ getD I₂ k 0
+  grid-same k l (yes h) =
+      let q : ℕ = (k - 592) / 64 in
+      let f : ℕ = (k - 592) % 64 in
+      let e : k ≡ 592 + (q * 64 + f) = omega arith in
+      let s : q < M .states = omega arith in
+      let t : f < 64 = omega arith in
+      ap (λ n. getD I₁ n 0) e ∙ a .grid q f s t ∙ sym (b .grid q f s t) ∙ ap (λ n. getD I₂ n 0) (sym e)
+  grid-same k l (no h) = x .grid k (omega arith) ∙ sym (y .grid k (omega arith))
+
+  -- Each number is the same.
+  number-same : (k : ℕ) → Dec (k < 8) → Dec (k < 80) → Dec (k < 592) → getD I₁ k 0 ≡ getD I₂ k 0
+  number-same k (yes h) e f = front-same k h (decLt k 6)
+  number-same k (no h) (yes e) f = firsts-same k (omega arith) e (decLt (8 + M .states) k)
+  number-same k (no h) (no e) (yes f) = rows-same k (omega arith) f (decLt k (80 + length (M .rows)))
+  number-same k (no h) (no e) (no f) = grid-same k (omega arith) (decLt k (592 + M .states * 64))
+
+  -- So all numbers are.
+  numbers-same : I₁ ≡ I₂
+  numbers-same = ext-getD 0 I₁ I₂ (a .numbers ∙ sym (b .numbers)) λ k h. number-same k (decLt k 8) (decLt k 80) (decLt k 592)
 
 -- Refusals with one number and one place are the same.
 refusal-same : (x y : Refusal) → x .number ≡ y .number → x .place ≡ y .place → x ≡ y
 refusal-same x y e f = ap₂ (λ (a b : ℕ). record { number = a; place = b }) e f
 
--- Two answers to one reply, from the same lent bytes F and entries I.
-pub open-one : (F I : List ℕ) (o : Reply Table) (r r′ : Opening) (F₁ I₁ F₂ I₂ : List ℕ) → Opens F₁ I₁ o r → Unchanged F I F₁ I₁ r → Opens F₂ I₂ o r′ → Unchanged F I F₂ I₂ r′
-    → (r ≡ r′) × (F₁ ≡ F₂) × (I₁ ≡ I₂)
+-- Two answers to one reply, from the same lent bytes F and numbers I.
+pub open-one : (F I : List ℕ) (o : Reply Table) (r r′ : Opening) (F₁ I₁ F₂ I₂ : List ℕ) → Opens F₁ I₁ o r → Unchanged F I F₁ I₁ o → Opens F₂ I₂ o r′
+    → Unchanged F I F₂ I₂ o → (r ≡ r′) × (F₁ ≡ F₂) × (I₁ ≡ I₂)
 open-one F I (given M) (opening.Table h) (opening.Table h′) F₁ I₁ F₂ I₂ a u b v =
-    (ap opening.Table (a .0 ∙ sym (b .0)), opened-bytes F₁ I₁ F₂ I₂ M (a .1) (b .1) (a .2) (b .2), opened-entries F₁ I₁ F₂ I₂ M (a .1) (b .1))
+    (ap opening.Table (a .0 ∙ sym (b .0)), u .0 ∙ sym (v .0), numbers-same (a .1) (b .1) (u .1) (v .1))
 open-one F I (given M) (opening.Table h) (opening.Refused y) F₁ I₁ F₂ I₂ a u b v = absurd b
 open-one F I (given M) (opening.Refused x) r′ F₁ I₁ F₂ I₂ a u b v = absurd a
 open-one F I (refused n p) (opening.Table h) r′ F₁ I₁ F₂ I₂ a u b v = absurd a

@@ -1,2 +1,3 @@
 -- The reader of table texts.
 pub mod Opening
+pub mod Storing

@@ -1,34 +1,48 @@
--- What opening a text answers. Definitions only.
+-- What opening a text answers, and what it leaves as it was. Definitions only.
 use mathlib.Core.Path.{_≡_}
-use mathlib.Core.List.{List}
-use Prim.Native.Nat.{ℕ, _≤_}
-use lib.ListN.{length, getD}
+use mathlib.Core.List.{List, _++_}
+use Prim.Native.Nat.{ℕ, _+_, _*_, _<_, _≤_}
+use lib.ListN.{length, getD, take, drop}
 use Rattle.words.specs.Reply.{Reply, given, refused}
 use Rattle.machine.specs.Machine.{Table}
-use Rattle.layout.specs.Layout.{framesSize, indexSize, framesOf, Opened}
+use Rattle.text.specs.Limits.{symbolsMost}
+use Rattle.text.specs.Writing.{Limited}
+use Rattle.layout.specs.Layout.{framesSize, firstsFrom, rulesFrom, gridFrom, framesOf, Opened}
 use Rattle.layout.specs.Leaves.{headOf}
+use Rattle.frames.specs.Staged.{Noted}
 use Rattle.table.specs.declared.Opening.{Opening}
 use Rattle.table.specs.declared.Opening.the-variants as opening
 
--- From n on nothing but 0 stands in the bytes F.
-abbrev pub BlankFrom : List ℕ → ℕ → Type 0
-BlankFrom F n = (i : ℕ) → n ≤ i → getD F i 0 ≡ 0
-
--- Bytes F and entries I with the sizes of an opened table, and nothing but 0 in them.
-pub record Blank (F I : List ℕ) : Type 0 where
-  pub bytes : length F ≡ framesSize
-  pub entries : length I ≡ indexSize
-  pub frames : (i : ℕ) → getD F i 0 ≡ 0
-  pub index : (i : ℕ) → getD I i 0 ≡ 0
-
--- Opening answers as reading does: the lent bytes F and entries I are the opened table, with nothing but 0 behind its frames; or the refusal is the text's.
+-- Opening answers as reading does: the lent bytes F and numbers I are the opened table; or the refusal is the text's.
 abbrev pub Opens : List ℕ → List ℕ → Reply Table → Opening → Type 0
-Opens F I (given M) (opening.Table head) = (head ≡ headOf M) × Opened F I M × BlankFrom F (length (framesOf M))
+Opens F I (given M) (opening.Table head) = (head ≡ headOf M) × Opened F I M
 Opens F I (given M) (opening.Refused r) = ⊥
 Opens F I (refused n p) (opening.Table head) = ⊥
 Opens F I (refused n p) (opening.Refused r) = (r .number ≡ n) × (r .place ≡ p)
 
--- Where a text is refused, the lent bytes and entries are as they were.
-abbrev pub Unchanged : List ℕ → List ℕ → List ℕ → List ℕ → Opening → Type 0
-Unchanged F I F′ I′ (opening.Table head) = Unit {0}
-Unchanged F I F′ I′ (opening.Refused r) = (F′ ≡ F) × (I′ ≡ I)
+-- The numbers I′ of the opened table M have 0 in the two places behind the head, and each number that M does not use is as it was in I.
+pub record Beyond (I I′ : List ℕ) (M : Table) : Type 0 where
+  pub blank : (k : ℕ) → 6 ≤ k → k < firstsFrom → getD I′ k 0 ≡ 0
+  pub firsts : (k : ℕ) → firstsFrom + M .states < k → k < rulesFrom → getD I′ k 0 ≡ getD I k 0
+  pub rules : (k : ℕ) → rulesFrom + length (M .rows) ≤ k → k < gridFrom → getD I′ k 0 ≡ getD I k 0
+  pub grid : (k : ℕ) → gridFrom + M .states * symbolsMost ≤ k → getD I′ k 0 ≡ getD I k 0
+
+-- What opening leaves of the lent bytes F and numbers I: all of them where the text is refused; else what lies behind the table's frames, and each
+-- number that the table does not use.
+abbrev pub Unchanged : List ℕ → List ℕ → List ℕ → List ℕ → Reply Table → Type 0
+Unchanged F I F′ I′ (given M) = (F′ ≡ framesOf M ++ drop (length (framesOf M)) F) × Beyond I I′ M
+Unchanged F I F′ I′ (refused n p) = (F′ ≡ F) × (I′ ≡ I)
+
+-- The frames of the limited table M stand first in the bytes F, and the numbers of its rules first in R.
+pub record Decoded (F R : List ℕ) (M : Table) : Type 0 where
+  pub limited : Limited M
+  pub bytes : length F ≡ framesSize
+  pub frames : take (length (framesOf M)) F ≡ framesOf M
+  pub rules : Noted R M
+
+-- Reading a text's lines answers as the definition does: the bytes F and the numbers R are those of the table; or the refusal is the text's.
+abbrev pub Reads : List ℕ → List ℕ → Reply Table → Opening → Type 0
+Reads F R (given M) (opening.Table head) = (head ≡ headOf M) × Decoded F R M
+Reads F R (given M) (opening.Refused r) = ⊥
+Reads F R (refused n p) (opening.Table head) = ⊥
+Reads F R (refused n p) (opening.Refused r) = (r .number ≡ n) × (r .place ≡ p)

@@ -1,6 +1,6 @@
 -- `children` meets its contract. The loop's invariant: the children before are read. The measure is how many are left. Assumes nothing.
 use borrow.Author.Needs.{needs}
-use Prim.Native.Nat.{_<_, _≤_}
+use Prim.Native.Nat.{_^_, _<_, _≤_}
 use native.Mathlib.Omega.{arith}
 use lib.Seq.{slice}
 use Rattle.fields.specs.Read.{oneChild}
@@ -62,7 +62,7 @@ state-small c =
     omega (arith, child.child-below (a .states) _ (i .child) _ (i .read), i .state, c .before .before .before .before .before .before .before .pre .1 .0)
 
 -- The other states before it have room.
-rest-small : (c : tie.After-known-told Inv-loop μ-loop) → c .before .before .before .before .before .loop .rest < 262144
+rest-small : (c : tie.After-known-told Inv-loop μ-loop) → c .before .before .before .before .before .loop .rest < 1024 ^ 3
 rest-small c =
     let b = c .before .before .before .before .before .loop .inv in
     b .room .four (omega (arith, b .number, c .before .before .before .before .before .before .before .pre .1 .1))

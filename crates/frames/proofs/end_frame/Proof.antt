@@ -4,10 +4,10 @@ use Rattle.frames.proofs.end_frame.Statement.{statement}
 use Rattle.frames.proofs.end_frame.Tie as tie
 
 returns : tie.Need-returns
-returns c F I M a kind inside = law.end-over a (c .before .args .at) (c .before .args .end) (c .if1 .taken) inside
+returns c F R M a kind inside = law.end-over a (c .before .args .at) (c .before .args .end) (c .if1 .taken) inside
 
 returns-2 : tie.Need-returns-2
-returns-2 c F I M a kind inside =
+returns-2 c F R M a kind inside =
     let s = c .before .before in
     law.end-next a (s .args .at) (s .args .end) (c .before .if1 .left) (s .pre .0) (s .pre .1) inside kind
 

@@ -27,7 +27,7 @@ returns c =
     let a = c .before .before .before .before .before .args in
     let w = c .before .before .before .word in
     let k = c .before .enum-told .given .0 .0 in
-    law.rule-fault (a .frames .now) (a .at) (a .end) k _ _ (law.first-fault (a .states) (a .count) _ k (word.fault-word (a .frames .now) (a .at) (a .end) k _ (w .result) (c .before .enum-told .given .1) (w .ensures)))
+    law.rule-fault (a .frames .now) (a .i) (a .at) (a .end) k _ _ (law.first-fault (a .states) (a .count) _ k (word.fault-word (a .frames .now) (a .at) (a .end) k _ (w .result) (c .before .enum-told .given .1) (w .ensures)))
     (fault-of (w .result) (c .number-of .result) k (c .before .enum-told .given .1) (c .number-of .ensures))
 
 -- What the first word's bytes give.
@@ -59,7 +59,7 @@ returns-2 c =
     let f = c .before .before .before .before .before .first in
     let r = c .before .before .before .children in
     let k = c .before .enum-told2 .given .0 .0 in
-    law.rule-fault (a .frames .now) (a .at) (a .end) k _ _
+    law.rule-fault (a .frames .now) (a .i) (a .at) (a .end) k _ _
     (law.rest-fault (a .states) (a .count) _ _ _ k (worded (c .before .before .before .before) .read)
     (kids.fault-kids (a .frames .now) (f .given .0 .1 .0) (a .end) k _ (r .result) (c .before .enum-told2 .given .1) (r .ensures)))
     (law.kids-fault-of (r .result) (c .kids-number .result) k (c .before .enum-told2 .given .1) (c .kids-number .ensures))
@@ -84,13 +84,13 @@ pack-requires c κs =
     let w = worded (c .before .before .before .before) in
     let f = given c .family in
     let p = c .before .before .before .before .before .before .before .before .before .pre in
-    (omega (arith, w .next, w .inside, p .0 .1), omega (arith, w .short, f .few), f .small)
+    (p .0 .0, omega (arith, w .short, f .few), f .small)
 
 returns-3 : tie.Need-returns-3
 returns-3 c =
     let a = c .before .before .before .before .before .before .before .before .before .before .args in
     let w = worded (c .before .before .before .before .before) in
-    law.rule-got (a .frames .now) (a .at) (a .end) (a .states) (a .count) _ _ _ _ _ (c .pack .result) w (given (c .before)) (c .pack .ensures)
+    law.rule-got (a .frames .now) (a .i) (a .at) (a .end) (a .states) (a .count) _ _ _ _ _ (c .pack .result) w (given (c .before)) (c .pack .ensures)
 
 pub rule-fields-spec : {M : Type 1} → statement M
 rule-fields-spec =

@@ -5,7 +5,7 @@ use Rattle.frames.proofs.start.Statement.{statement}
 use Rattle.frames.proofs.start.Tie as tie
 
 returns : tie.Need-returns
-returns c = (λ F I h. begin-staged F I _ refl refl refl h, refl)
+returns c = (λ F R. begin-staged F _ refl refl refl, refl)
 
 pub start-spec : {M : Type 1} → statement M
 start-spec = tie.close (tie.spec returns)

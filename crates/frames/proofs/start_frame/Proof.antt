@@ -27,7 +27,7 @@ returns c =
     let w = c .before .before .before .within in
     let t = c .before .enum-told .given in
     let f = field.fault-number (a .frames .now) (a .at) (a .end) (t .0 .0) _ (w .result) (t .1) (w .ensures) in
-    λ I ks d e. law.stepped-fault (a .frames .now) I _ (t .0 .0) (w .result) (c .fault .result) (start.start-states ks _ (t .0 .0) f) (t .1) (c .fault .ensures)
+    λ R ks d e. law.stepped-fault (a .frames .now) R _ (t .0 .0) (w .result) (c .fault .result) (start.start-states ks _ (t .0 .0) f) (t .1) (c .fault .ensures)
 
 -- What the number of states gives.
 counted : (c : tie.After-known-told) →
@@ -57,7 +57,7 @@ returns-2 c =
     let t = c .before .enum-told2 .given in
     let f = word.fault-word (a .frames .now) _ (a .end) (t .0 .0) _ (w .result) (t .1) (w .ensures) in
     let i = counted (c .before .before .before .before) in
-    λ I ks d e. law.stepped-fault (a .frames .now) I _ (t .0 .0) (w .result) (c .fault2 .result) (start.start-before ks _ _ _ (i .read) (t .0 .0) f) (t .1) (c .fault2 .ensures)
+    λ R ks d e. law.stepped-fault (a .frames .now) R _ (t .0 .0) (w .result) (c .fault2 .result) (start.start-before ks _ _ _ (i .read) (t .0 .0) f) (t .1) (c .fault2 .ensures)
 
 -- What the word u0 gives.
 first-word : (c : tie.After-known-told2) →
@@ -90,8 +90,8 @@ returns-3 c =
     let t = c .before .enum-told3 .given in
     let f = field.fault-number (a .frames .now) _ (a .end) (t .0 .0) _ (w .result) (t .1) (w .ensures) in
     let i = c .before .before .before .before in
-    λ I ks d e.
-    law.stepped-fault (a .frames .now) I _ (t .0 .0) (w .result) (c .fault3 .result) (start.start-state ks _ _ _ (counted (i .before .before .before .before) .read) _ _ (first-word i .read) (t .0 .0) f) (t .1) (c .fault3 .ensures)
+    λ R ks d e.
+    law.stepped-fault (a .frames .now) R _ (t .0 .0) (w .result) (c .fault3 .result) (start.start-state ks _ _ _ (counted (i .before .before .before .before) .read) _ _ (first-word i .read) (t .0 .0) f) (t .1) (c .fault3 .ensures)
 
 -- What the state gives.
 stated : (c : tie.After-known-told3) →
@@ -126,8 +126,8 @@ returns-4 c =
     let f = word.fault-word (a .frames .now) _ (a .end) (t .0 .0) _ (w .result) (t .1) (w .ensures) in
     let i = c .before .before .before .before in
     let j = i .before .before .before .before in
-    λ I ks d e.
-    law.stepped-fault (a .frames .now) I _ (t .0 .0) (w .result) (c .fault4 .result)
+    λ R ks d e.
+    law.stepped-fault (a .frames .now) R _ (t .0 .0) (w .result) (c .fault4 .result)
     (start.start-after ks _ _ _ (counted (j .before .before .before .before) .read) _ _ (first-word j .read) _ _ (stated i .read) (t .0 .0) f) (t .1) (c .fault4 .ensures)
 
 -- What the word u1 gives.
@@ -147,8 +147,8 @@ returns-5 c =
     let a = c .before .before .before .before .before .before .before .before .before .before .before .before .before .before .before .before .before .before .before .args in
     let i = c .before .before .before .before .before in
     let j = i .before .before .before .before in
-    λ I ks d e.
-    law.stepped-left (a .frames .now) I _ _ (c .before .before .u1 .given .0 .1 .0) (a .end)
+    λ R ks d e.
+    law.stepped-left (a .frames .now) R _ _ (c .before .before .u1 .given .0 .1 .0) (a .end)
     (start.start-got ks _ _ _ (counted (j .before .before .before .before) .read) _ _ (first-word j .read) _ _ (stated i .read) _ _ (last-word (c .before) .read)) (c .if1 .taken) (c .before .before .before .before .before .before .before .before .before .before .before .before .before .before .before .before .before .before .before .pre .2)
 
 started-requires : tie.Need-started-requires
@@ -161,10 +161,10 @@ returns-6 o =
     let i = c .before .before .before .before .before in
     let j = i .before .before .before .before in
     let k = j .before .before .before .before in
-    λ I ks d e.
-    law.stepped-ready (a .frames .now) I _ _ (c .before .before .u1 .given .0 .1 .0) (a .end)
+    λ R ks d e.
+    law.stepped-ready (a .frames .now) R _ _ (c .before .before .u1 .given .0 .1 .0) (a .end)
     (start.start-got ks _ _ _ (counted k .read) _ _ (first-word j .read) _ _ (stated i .read) _ _ (last-word (c .before) .read)) _ _ (last-word (c .before) .inside) (c .if1 .left)
-    (start.start-staged d e (a .at) (a .end) _ _ _ _ _ _ _ _ (c .before .before .before .before .before .before .before .before .before .before .before .before .before .before .before .before .before .before .before .pre .0) (c .before .before .before .before .before .before .before .before .before .before .before .before .before .before .before .before .before .before .before .pre .2) (counted k) (first-word j) (stated i) (last-word (c .before)) (c .if1 .left))
+    (start.start-staged d e (a .at) (a .end) _ _ _ _ _ _ _ _ (c .before .before .before .before .before .before .before .before .before .before .before .before .before .before .before .before .before .before .before .pre .0) (c .before .before .before .before .before .before .before .before .before .before .before .before .before .before .before .before .before .before .before .pre .2) (counted k) (first-word j) (stated i) (last-word (c .before)) (c .if1 .left) R)
     (o .started .ensures)
 
 pub start-frame-spec : {M : Type 1} → statement M

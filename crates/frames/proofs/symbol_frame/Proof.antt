@@ -13,7 +13,7 @@ use Rattle.frames.proofs.symbol_frame.Statement.{statement}
 use Rattle.frames.proofs.symbol_frame.Tie as tie
 
 returns : tie.Need-returns
-returns c = λ I ks d e. law.stepped-wrong (c .before .before .before .args .frames .now) I _ 4 _ (symbol.symbol-many ks _ (omega (arith, d .symbols))) refl
+returns c = λ R ks d e. law.stepped-wrong (c .before .before .before .args .frames .now) R _ 4 _ (symbol.symbol-many ks _ (omega (arith, d .symbols))) refl
 
 within-requires : tie.Need-within-requires
 within-requires c κs = search needs
@@ -33,8 +33,8 @@ returns-2 c =
     let w = c .before .before .before .within in
     let t = c .before .enum-told .given in
     let f = field.fault-number (a .frames .now) (a .at) (a .end) (t .0 .0) _ (w .result) (t .1) (w .ensures) in
-    λ I ks d e.
-    law.stepped-fault (a .frames .now) I _ (t .0 .0) (w .result) (c .fault .result) (symbol.symbol-fault ks _ (omega (arith, d .symbols)) (t .0 .0) f) (t .1) (c .fault .ensures)
+    λ R ks d e.
+    law.stepped-fault (a .frames .now) R _ (t .0 .0) (w .result) (c .fault .result) (symbol.symbol-fault ks _ (omega (arith, d .symbols)) (t .0 .0) f) (t .1) (c .fault .ensures)
 
 -- What the arity's byte gives.
 numbered : (c : tie.After-known-told) →
@@ -49,8 +49,8 @@ returns-3 : tie.Need-returns-3
 returns-3 c =
     let a = c .before .before .before .before .before .before .before .before .args in
     let i = numbered (c .before) in
-    λ I ks d e.
-    law.stepped-left (a .frames .now) I _ _ (c .before .before .arity .given .0 .1 .0) (a .end) (symbol.symbol-got ks _ (omega (arith, d .symbols)) _ _ (i .read)) (c .if2 .taken) (c .before .before .before .before .before .before .before .before .pre .2)
+    λ R ks d e.
+    law.stepped-left (a .frames .now) R _ _ (c .before .before .arity .given .0 .1 .0) (a .end) (symbol.symbol-got ks _ (omega (arith, d .symbols)) _ _ (i .read)) (c .if2 .taken) (c .before .before .before .before .before .before .before .before .pre .2)
 
 add-head : tie.Need-add-head
 add-head c = search needs
@@ -59,9 +59,9 @@ returns-4 : tie.Need-returns-4
 returns-4 c =
     let a = c .before .before .before .before .before .before .before .before .args in
     let i = numbered (c .before) in
-    λ I ks d e.
+    λ R ks d e.
     let m : length ks < 64 = omega (arith, d .symbols) in
-    law.stepped-ready (a .frames .now) I _ _ (c .before .before .arity .given .0 .1 .0) (a .end) (symbol.symbol-got ks _ m _ _ (i .read)) _ _ (i .inside) (c .if2 .left)
+    law.stepped-ready (a .frames .now) R _ _ (c .before .before .arity .given .0 .1 .0) (a .end) (symbol.symbol-got ks _ m _ _ (i .read)) _ _ (i .inside) (c .if2 .left)
     (symbol.symbol-staged d e (a .at) (a .end) _ _ _ (c .before .before .before .before .before .before .before .before .pre .0) (c .before .before .before .before .before .before .before .before .pre .2) m i (c .if2 .left) refl refl refl)
     refl
 

@@ -1,35 +1,56 @@
--- `read` meets its contract: the refusal for the text's length, or what its lines come to. Assumes nothing.
-use mathlib.Core.Logic.{⊎-elim}
-use borrow.Author.Tests.{ltb-true}
-use lib.ListN.{length}
-use Rattle.text.proofs.Reading.{read-empty, read-long}
+-- `read` meets its contract: the refusal, or the table whose numbers are filled. Assumes nothing.
+use Rattle.text.specs.Reading.{readTable}
 use Rattle.table.proofs.Ends as law
+use Rattle.table.proofs.Tables as table
 use borrow.Author.Needs.{needs}
 use Rattle.table.proofs.read.Statement.{statement}
 use Rattle.table.proofs.read.Tie as tie
 
-refuse-requires : tie.Need-refuse-requires
-refuse-requires c κs = search needs
-
 returns : tie.Need-returns
 returns c =
-    let t = c .before .before .before .before .before .args .text .now in
-    let n = ⊎-elim (λ w. read-empty t (w .taken)) (λ w. read-long t (ltb-true 32768 (length t) (w .1 .taken))) (c .before .if1 .came) in
-    law.refused-opens _ _ _ 1 0 (c .refuse .result) n (c .refuse .ensures)
+    let c5 = c .before .before .before .before .before in
+    let c11 = c5 .before .before .before .before .before .before in
+    let r = c5 .read-text in
+    let t = c .enum-told .given in
+    let a = c11 .args in
+    law.refused-opens (r .last .1 .0) (r .last .1 .1 .0) _ _ (readTable (a .text .now)) (r .result) (t .0 .0) (t .1) (r .ensures)
 
-read-lines-requires : tie.Need-read-lines-requires
-read-lines-requires c κs = search needs
+-- The text is that of a table.
+told : (c : tie.After-known-told) →
+    let r = c .before .before .before .before .before .before in
+    let s = r .before .before .before .before .before .before in
+    table.IsTable (s .args .text .now) (r .read-text .last .1 .0) (r .read-text .last .1 .1 .0) (c .before .opening .given .0 .0)
+told c =
+    let c6 = c .before .before .before .before .before .before in
+    let c12 = c6 .before .before .before .before .before .before in
+    let r = c6 .read-text in
+    let t = c .before .opening .given in
+    table.is-table (c12 .args .text .now) (r .last .1 .0) (r .last .1 .1 .0) (r .result) (t .0 .0) (t .1) (r .ensures)
 
-same-length : tie.Need-same-length
-same-length c = search needs
-
-same-length-2 : tie.Need-same-length-2
-same-length-2 c = search needs
+fill-requires : tie.Need-fill-requires
+fill-requires c κs =
+    let c8 = c .before .before .before .before .before .before .before .before in
+    let c14 = c8 .before .before .before .before .before .before in
+    ((c14 .pre .1, c8 .read-text .kept .1 .1 .0), table.few (told (c .before .before)))
 
 returns-2 : tie.Need-returns-2
-returns-2 c = search needs
+returns-2 c =
+    let c5 = c .before .before .before .before .before in
+    let c17 = c5 .before .before .before .before .before .before .before .before .before .before .before .before in
+    table.read-opens (told c5) (c17 .pre .1) (c .before .before .fill .ensures)
 
 pub read-spec : {M : Type 1} → statement M
 read-spec =
     tie.close
-    (tie.spec refuse-requires returns read-lines-requires same-length same-length-2 returns-2)
+    (tie.spec
+    (λ c. search needs)
+    (λ c κs. search needs)
+    (λ c. search needs)
+    (λ c. search needs)
+    (λ c. search needs)
+    returns
+    (λ c. search needs)
+    fill-requires
+    (λ c. search needs)
+    (λ c. search needs)
+    returns-2)

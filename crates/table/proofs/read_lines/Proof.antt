@@ -13,32 +13,21 @@ use Rattle.table.proofs.read_lines.Statement.{statement}
 use Rattle.table.proofs.read_lines.Tie as tie
 
 abbrev Inv-loop : tie.InvT-loop
-Inv-loop text bytes₀ index₀ st₀ at₀ bytes index st at = Going text bytes index st at
+Inv-loop text bytes₀ rules₀ st₀ at₀ bytes rules st at = Going text bytes rules st at
 
 abbrev μ-loop : tie.MeasureT-loop
-μ-loop text bytes₀ index₀ st₀ at₀ bytes index st at = length text - at
-
-start-requires : tie.Need-start-requires Inv-loop μ-loop
-start-requires c κs = search needs
+μ-loop text bytes₀ rules₀ st₀ at₀ bytes rules st at = length text - at
 
 loop-holds : tie.Need-loop-holds Inv-loop μ-loop
 loop-holds c =
+    let a = c .before .before .before .before .args in
     let p = c .before .before .before .before .pre in
-    going-begin _ _ _ _ (p .0 .0) (p .0 .1) (p .1 .bytes) (p .1 .entries) (λ i h. p .1 .frames i) (c .start .ensures .0 _ _ (law.blank-indexed _ _ (p .1))) (c .start .ensures .1)
+    going-begin _ _ _ _ (p .0 .0) (p .0 .1) (p .1 .0) (p .1 .1) (c .start .ensures .0 (a .bytes .now) (a .rules .now)) (c .start .ensures .1)
 
 next-line-requires : tie.Need-next-line-requires Inv-loop μ-loop
 next-line-requires c κs =
     let g = c .before .before .loop .inv in
     ((g .inside, c .before .before .before .before .before .before .before .pre .0 .1), (g .room, omega (arith, g .bytes)))
-
-enum-known-line : tie.Need-enum-known-line Inv-loop μ-loop
-enum-known-line c = search needs
-
-enum-told : tie.Need-enum-told Inv-loop μ-loop
-enum-told c = search needs
-
-refuse-requires : tie.Need-refuse-requires Inv-loop μ-loop
-refuse-requires c κs = search needs
 
 -- The line is bad, and the bytes that are used are as they were.
 spoiled : (k : tie.After-enum-told Inv-loop μ-loop) →
@@ -52,16 +41,16 @@ spoiled k =
 same-length : tie.Need-same-length Inv-loop μ-loop
 same-length c =
     let g = c .before .before .before .before .before .before .before .before .loop .inv in
-    spoiled (c .before) .1 .long ∙ g .bytes ∙ sym (c .before .before .before .before .before .before .before .before .before .before .before .before .before .pre .1 .bytes)
+    spoiled (c .before) .1 .long ∙ g .bytes ∙ sym (c .before .before .before .before .before .before .before .before .before .before .before .before .before .pre .1 .0)
 
 same-length-2 : tie.Need-same-length-2 Inv-loop μ-loop
 same-length-2 c =
     let g = c .before .before .before .before .before .before .before .before .loop .inv in
-    g .entries ∙ sym (c .before .before .before .before .before .before .before .before .before .before .before .before .before .pre .1 .entries)
+    g .rules ∙ sym (c .before .before .before .before .before .before .before .before .before .before .before .before .before .pre .1 .1)
 
 returns : tie.Need-returns Inv-loop μ-loop
 returns c =
-    law.refused-opens _ _ _ 2 _ (c .refuse .result) (going-bad (c .before .before .before .before .before .before .before .before .loop .inv) (c .before .before .before .before .before .before .before .loop-test .taken) (spoiled (c .before) .0)) (c .refuse .ensures)
+    law.refused-reads _ _ _ 2 _ (c .refuse .result) (going-bad (c .before .before .before .before .before .before .before .before .loop .inv) (c .before .before .before .before .before .before .before .loop-test .taken) (spoiled (c .before) .0)) (c .refuse .ensures)
 
 -- The line is whole, and its bytes are put.
 taken : (k : tie.After-known-told Inv-loop μ-loop) →
@@ -77,28 +66,16 @@ step-requires c κs =
     let g = c .before .before .before .before .before .before .before .before .before .before .loop .inv in
     let w = taken (c .before .before) in
     let f = c .before .before .before .before .before .before .before .before .before .before .before .before .before .before .before .pre .0 .1 in
-    ((omega (arith, line-fits g w f), line-bytes g w f, g .entries), stage.staged-few _ _ _ (g .stage) (g .staged))
-
-enum-known-after : tie.Need-enum-known-after Inv-loop μ-loop
-enum-known-after c = search needs
-
-enum-told-2 : tie.Need-enum-told-2 Inv-loop μ-loop
-enum-told-2 c = search needs
-
-number-of-requires : tie.Need-number-of-requires Inv-loop μ-loop
-number-of-requires c κs = search needs
-
-refuse-requires-2 : tie.Need-refuse-requires-2 Inv-loop μ-loop
-refuse-requires-2 c κs = search needs
+    ((omega (arith, line-fits g w f), line-bytes g w f, g .rules), stage.staged-few _ _ _ (g .stage) (g .staged))
 
 same-length-3 : tie.Need-same-length-3 Inv-loop μ-loop
 same-length-3 c =
     let g = c .before .before .before .before .before .before .before .before .before .before .before .before .before .before .before .before .before .loop .inv in
     let w = taken (c .before .before .before .before .before .before .before .before .before) in
-    line-bytes g w (c .before .before .before .before .before .before .before .before .before .before .before .before .before .before .before .before .before .before .before .before .before .before .pre .0 .1) ∙ sym (c .before .before .before .before .before .before .before .before .before .before .before .before .before .before .before .before .before .before .before .before .before .before .pre .1 .bytes)
+    line-bytes g w (c .before .before .before .before .before .before .before .before .before .before .before .before .before .before .before .before .before .before .before .before .before .before .pre .0 .1) ∙ sym (c .before .before .before .before .before .before .before .before .before .before .before .before .before .before .before .before .before .before .before .before .before .before .pre .1 .0)
 
 same-length-4 : tie.Need-same-length-4 Inv-loop μ-loop
-same-length-4 c = c .before .before .before .before .before .before .step .ensures .1 ∙ sym (c .before .before .before .before .before .before .before .before .before .before .before .before .before .before .before .before .before .before .before .before .before .before .pre .1 .entries)
+same-length-4 c = c .before .before .before .before .before .before .step .ensures .1 ∙ sym (c .before .before .before .before .before .before .before .before .before .before .before .before .before .before .before .before .before .before .before .before .before .before .pre .1 .1)
 
 returns-2 : tie.Need-returns-2 Inv-loop μ-loop
 returns-2 c =
@@ -124,24 +101,21 @@ loop-again c =
     let t = c .before .after .given in
     line-next g w f _ _ (stage.ready-step _ _ (t .0 .0) _ (s .result) (t .1) (s .ensures .0 (g .stage) (line-staged g w f))) (s .ensures .1)
 
-finish-requires : tie.Need-finish-requires Inv-loop μ-loop
-finish-requires c κs = search needs
-
 same-length-5 : tie.Need-same-length-5 Inv-loop μ-loop
 same-length-5 c =
     let g = c .before .before .loop .inv in
-    g .bytes ∙ sym (c .before .before .before .before .before .before .before .pre .1 .bytes)
+    g .bytes ∙ sym (c .before .before .before .before .before .before .before .pre .1 .0)
 
 same-length-6 : tie.Need-same-length-6 Inv-loop μ-loop
 same-length-6 c =
     let g = c .before .before .loop .inv in
-    g .entries ∙ sym (c .before .before .before .before .before .before .before .pre .1 .entries)
+    g .rules ∙ sym (c .before .before .before .before .before .before .before .pre .1 .1)
 
 returns-3 : tie.Need-returns-3 Inv-loop μ-loop
 returns-3 c =
     let g = c .before .before .loop .inv in
     let h = c .before .loop-test .left in
-    law.opens-as _ _ _ _ (c .finish .result) (going-end g h) (c .finish .ensures _ _ (g .stage) (g .staged) (g .blank) (g .bytes) (g .entries) (end-limited g h))
+    law.reads-as _ _ _ _ (c .finish .result) (going-end g h) (c .finish .ensures _ _ (g .stage) (g .staged) (g .bytes) (end-limited g h))
 
 pub read-lines-spec : {M : Type 1} → statement M
 read-lines-spec =
@@ -149,26 +123,26 @@ read-lines-spec =
     (tie.spec
     Inv-loop
     μ-loop
-    start-requires
+    (λ c κs. search needs)
     loop-holds
     next-line-requires
-    enum-known-line
-    enum-told
-    refuse-requires
+    (λ c. search needs)
+    (λ c. search needs)
+    (λ c κs. search needs)
     same-length
     same-length-2
     returns
     step-requires
-    enum-known-after
-    enum-told-2
-    number-of-requires
-    refuse-requires-2
+    (λ c. search needs)
+    (λ c. search needs)
+    (λ c κs. search needs)
+    (λ c κs. search needs)
     same-length-3
     same-length-4
     returns-2
     loop-less
     loop-again
-    finish-requires
+    (λ c κs. search needs)
     same-length-5
     same-length-6
     returns-3)
