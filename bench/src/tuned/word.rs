@@ -1,15 +1,16 @@
-//! The word of a tree by an opened table, fast: one measuring loop that leaves a plan, then writing
-//! by the plan, 32 bytes at a time. It trusts the table to be opened. Anything unusual goes to the
-//! plain walk.
+//! The word of a tree by an opened table, fast: one measuring loop that leaves a plan, which has each
+//! rule's number and how many children it has, then writing by the plan, 32 bytes at a time. It trusts
+//! the table to be opened. Anything unusual goes to the plain walk.
 
+use crate::opened::{spot, Opened, Rules, CHILDREN, FRAMES, GRID};
 use crate::plain;
-use crate::proved::{Opened, ENTRIES, FRAMES, LONGEST};
+use crate::proved::LONGEST;
 
 /// Length and terms, or the number of no and the place.
 pub type Answer = Result<(usize, usize), (u8, usize)>;
 
-/// Where a child's state stands in a rule's entry, less 6: the state comes out times 64.
-const CHILDREN: [u32; 4] = [16, 30, 36, 42];
+/// Where in a planned rule its number of children stands; the rule's number is lowest.
+pub const KIDS: u32 = 13;
 
 /// Letters of a tree; none where it is no tree with a word. States are kept times 64, and in what
 /// waits there is 4,096 for each symbol above.
@@ -17,26 +18,26 @@ fn measure(table: &Opened, tree: &[u8], plan: &mut [u32; LONGEST]) -> Option<usi
     let mut waiting = [0u32; 256];
     waiting[0] = 64 * 4096;
     let mut top: u8 = u8::from(!tree.is_empty());
-    let mut state = table.head[2] * 64;
+    let mut state = table.head().start * 64;
     let mut level = 0;
     let mut sum = 0;
     for (slot, &f) in plan.get_mut(..tree.len())?.iter_mut().zip(tree) {
         if f > 63 || level > 63 * 4096 {
             return None;
         }
-        let x = table.index[(state + usize::from(f)) % ENTRIES];
+        let x = table.numbers[GRID + (state + usize::from(f)) % 4096];
         if x == 0 {
             return None;
         }
-        *slot = ((x >> 8) & 16383 | (x >> 40) & (7 << 14)) as u32;
+        *slot = ((x >> 9) & 511 | x >> 61 << KIDS) as u32;
         sum += x & 255;
         let deeper = level + 4096;
-        let child = |n: usize| (x >> CHILDREN[n]) as u32 & 4032;
+        let child = |n: usize| (x >> (CHILDREN[n] - 6)) as u32 & 4032;
         let below = waiting[usize::from(top.wrapping_sub(1))];
         waiting[usize::from(top)] = deeper + child(1);
         waiting[usize::from(top.wrapping_add(1))] = deeper + child(2);
         waiting[usize::from(top.wrapping_add(2))] = deeper + child(3);
-        let kids = (x >> 54) as u8 & 7;
+        let kids = (x >> 61) as u8;
         state = (if kids == 0 { below & 4032 } else { child(0) }) as usize;
         level = if kids == 0 { below & !4095 } else { deeper };
         top = top.wrapping_add(kids).wrapping_sub(1);
@@ -65,12 +66,17 @@ fn put_last(word: &[u8], n: usize, room: &mut [u8], at: usize) {
 
 /// The writing pass: it calls itself for each child and lends it the room on from its current end.
 /// The letters of the tree.
-fn eval(frames: &[u8; FRAMES], plan: &mut std::slice::Iter<u32>, room: &mut [u8]) -> usize {
-    let Some(&entry) = plan.next() else {
+fn eval(
+    frames: &[u8; FRAMES],
+    rules: &Rules,
+    plan: &mut std::slice::Iter<u32>,
+    room: &mut [u8],
+) -> usize {
+    let Some(&planned) = plan.next() else {
         return 0;
     };
-    let mut from = entry as usize;
-    let mut left = entry >> 14;
+    let mut from = spot(rules, planned as usize);
+    let mut left = planned >> KIDS;
     let mut end = 0;
     loop {
         let n = put(frames, from, room, end);
@@ -79,7 +85,7 @@ fn eval(frames: &[u8; FRAMES], plan: &mut std::slice::Iter<u32>, room: &mut [u8]
             return end;
         }
         from += n + 2;
-        end += eval(frames, plan, room.get_mut(end..).unwrap_or_default());
+        end += eval(frames, rules, plan, room.get_mut(end..).unwrap_or_default());
         left -= 1;
     }
 }
@@ -118,27 +124,28 @@ pub fn find_by(
     tree: &[u8],
     plan: &mut [u32; LONGEST],
     room: &mut [u8],
-    write: impl FnOnce(&[u8; FRAMES], &[u32; LONGEST], &mut [u8]),
+    write: impl FnOnce(&[u8; FRAMES], &Rules, &[u32; LONGEST], &mut [u8]),
 ) -> Answer {
     let Some(letters) = measure(table, tree, plan) else {
         return plain::word::find(table, tree, &mut Vec::new(), room);
     };
-    let before = stretch(&table.frames, table.head[3]);
-    let after = stretch(&table.frames, table.head[4]);
+    let head = table.head();
+    let before = stretch(&table.frames, head.before);
+    let after = stretch(&table.frames, head.after);
     let length = before.len() + letters + after.len();
     if room.len() < length {
         return Err((12, length));
     }
     room[..before.len()].copy_from_slice(before);
     lend(&mut room[before.len()..], letters, |part| {
-        write(&table.frames, plan, part)
+        write(&table.frames, table.rules(), plan, part)
     });
     room[before.len() + letters..length].copy_from_slice(after);
     Ok((length, terms(&room[..length])))
 }
 
 pub fn find(table: &Opened, tree: &[u8], plan: &mut [u32; LONGEST], room: &mut [u8]) -> Answer {
-    find_by(table, tree, plan, room, |frames, plan, part| {
-        eval(frames, &mut plan.iter(), part);
+    find_by(table, tree, plan, room, |frames, rules, plan, part| {
+        eval(frames, rules, &mut plan.iter(), part);
     })
 }
