@@ -1,6 +1,6 @@
-//! The word of a tree by an opened table, fast: one measuring loop that leaves a plan, which has each
-//! rule's number and how many children it has, then writing by the plan, 32 bytes at a time. It trusts
-//! the table to be opened. Anything unusual goes to the plain walk.
+//! The word of a tree by an opened table, fast: one measuring loop that leaves a plan of the rules'
+//! numbers, then writing by the plan, 32 bytes at a time. It trusts the table to be opened. Anything
+//! unusual goes to the plain walk.
 
 use crate::opened::{spot, Opened, Rules, CHILDREN, FRAMES, GRID};
 use crate::plain;
@@ -9,12 +9,24 @@ use crate::proved::LONGEST;
 /// Length and terms, or the number of no and the place.
 pub type Answer = Result<(usize, usize), (u8, usize)>;
 
-/// Where in a planned rule its number of children stands; the rule's number is lowest.
-pub const KIDS: u32 = 13;
+/// Where in a planned rule its number of children stands.
+const KIDS: u32 = 13;
+
+/// A rule as it is planned: its number and how many children it has.
+fn numbered(kept: u64, _: &Rules) -> u32 {
+    ((kept >> 9) & 511 | kept >> 61 << KIDS) as u32
+}
 
 /// Letters of a tree; none where it is no tree with a word. States are kept times 64, and in what
 /// waits there is 4,096 for each symbol above.
-fn measure(table: &Opened, tree: &[u8], plan: &mut [u32; LONGEST]) -> Option<usize> {
+#[inline(always)]
+fn measure(
+    table: &Opened,
+    tree: &[u8],
+    plan: &mut [u32; LONGEST],
+    planned: impl Fn(u64, &Rules) -> u32,
+) -> Option<usize> {
+    let rules = table.rules();
     let mut waiting = [0u32; 256];
     waiting[0] = 64 * 4096;
     let mut top: u8 = u8::from(!tree.is_empty());
@@ -29,7 +41,7 @@ fn measure(table: &Opened, tree: &[u8], plan: &mut [u32; LONGEST]) -> Option<usi
         if x == 0 {
             return None;
         }
-        *slot = ((x >> 9) & 511 | x >> 61 << KIDS) as u32;
+        *slot = planned(x, rules);
         sum += x & 255;
         let deeper = level + 4096;
         let child = |n: usize| (x >> (CHILDREN[n] - 6)) as u32 & 4032;
@@ -118,15 +130,17 @@ fn terms(word: &[u8]) -> usize {
         .sum::<usize>()
 }
 
+/// Measures with rules planned in one way, and writes by such a plan.
 #[inline(always)]
 pub fn find_by(
     table: &Opened,
     tree: &[u8],
     plan: &mut [u32; LONGEST],
     room: &mut [u8],
-    write: impl FnOnce(&[u8; FRAMES], &Rules, &[u32; LONGEST], &mut [u8]),
+    planned: impl Fn(u64, &Rules) -> u32,
+    write: impl FnOnce(&[u8; FRAMES], &[u32; LONGEST], &mut [u8]),
 ) -> Answer {
-    let Some(letters) = measure(table, tree, plan) else {
+    let Some(letters) = measure(table, tree, plan, planned) else {
         return plain::word::find(table, tree, &mut Vec::new(), room);
     };
     let head = table.head();
@@ -138,14 +152,14 @@ pub fn find_by(
     }
     room[..before.len()].copy_from_slice(before);
     lend(&mut room[before.len()..], letters, |part| {
-        write(&table.frames, table.rules(), plan, part)
+        write(&table.frames, plan, part)
     });
     room[before.len() + letters..length].copy_from_slice(after);
     Ok((length, terms(&room[..length])))
 }
 
 pub fn find(table: &Opened, tree: &[u8], plan: &mut [u32; LONGEST], room: &mut [u8]) -> Answer {
-    find_by(table, tree, plan, room, |frames, rules, plan, part| {
-        eval(frames, rules, &mut plan.iter(), part);
+    find_by(table, tree, plan, room, numbered, |frames, plan, part| {
+        eval(frames, table.rules(), &mut plan.iter(), part);
     })
 }
