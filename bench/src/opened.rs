@@ -8,9 +8,9 @@ pub const FRAMES: usize = 16448;
 pub const NUMBERS: usize = 4688;
 
 /// Where in the numbers the states' first rules begin, the rules, and the grid of states and symbols.
-pub const FIRSTS: usize = 8;
-pub const RULES: usize = 80;
-pub const GRID: usize = 592;
+pub const FIRSTS_FROM: usize = 8;
+pub const RULES_FROM: usize = 80;
+pub const GRID_FROM: usize = 592;
 
 /// The rules by their numbers, as `listed` tells each.
 pub type Rules = [u64; 512];
@@ -32,7 +32,7 @@ pub struct Head {
 }
 
 impl Head {
-    pub fn numbers(&self) -> [u64; FIRSTS] {
+    pub fn numbers(&self) -> [u64; FIRSTS_FROM] {
         let counts = [self.symbols, self.states, self.start, self.rules];
         let [symbols, states, start, rules] = counts.map(|count| count as u64);
         let (before, after) = (self.before as u64, self.after as u64);
@@ -104,27 +104,29 @@ impl Opened {
 
     /// The numbers of a state's rules.
     pub fn rules_of(&self, state: usize) -> Range<usize> {
-        let first = |state: usize| self.numbers[FIRSTS + state] as usize;
+        let first = |state: usize| self.numbers[FIRSTS_FROM + state] as usize;
         first(state)..first(state + 1)
     }
 
     /// The rules by their numbers.
     #[inline(always)]
     pub fn rules(&self) -> &Rules {
-        self.numbers[RULES..GRID].try_into().expect("512 numbers")
+        self.numbers[RULES_FROM..GRID_FROM]
+            .try_into()
+            .expect("512 numbers")
     }
 
     /// What is kept for a rule.
     #[inline(always)]
     pub fn kept_of(&self, rule: usize) -> u64 {
         let key = self.rules()[rule % 512] >> 17 & 4095;
-        self.numbers[GRID + key as usize]
+        self.numbers[GRID_FROM + key as usize]
     }
 
     /// What is kept for a state and each symbol.
     #[inline(always)]
     pub fn row(&self, state: usize) -> &[u64; 64] {
-        let from = GRID + state % 64 * 64;
+        let from = GRID_FROM + state % 64 * 64;
         self.numbers[from..from + 64]
             .try_into()
             .expect("64 numbers")

@@ -3,7 +3,7 @@
 //! risen, by sets of states in a number of 64 bits.
 
 use super::rows::No;
-use crate::opened::{spot, Head, Opened, FIRSTS, FRAMES};
+use crate::opened::{spot, Head, Opened, FIRSTS_FROM, FRAMES};
 use crate::tuned::judge::{bit, both, byte, joined, letter, pass, stuck, Ends, EMPTY, SEVERAL};
 
 /// A row: its children as a set, where its first and its last word stand, and its number of children.
@@ -56,7 +56,7 @@ fn summed(table: &Opened) -> Summed {
     summed.rows.extend((0..rules).map(row));
     for (start, &first) in summed.starts[..=states]
         .iter_mut()
-        .zip(&table.numbers[FIRSTS..])
+        .zip(&table.numbers[FIRSTS_FROM..])
     {
         *start = first as u16;
     }

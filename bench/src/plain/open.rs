@@ -1,7 +1,9 @@
 //! Opening a table text, straightforwardly: the lines in turn into bytes and numbers of its own, which
 //! are handed over in the end.
 
-use crate::opened::{kept, listed, one_later, Head, Opened, FIRSTS, FRAMES, GRID, NUMBERS, RULES};
+use crate::opened::{
+    kept, listed, one_later, Head, Opened, FIRSTS_FROM, FRAMES, GRID_FROM, NUMBERS, RULES_FROM,
+};
 use fadurinko_second::limits::{MAX_ARITY, MAX_RULES, MAX_STATES, MAX_SYMBOLS, MAX_TEXT, MAX_WORD};
 
 #[derive(Clone, Copy, PartialEq)]
@@ -126,10 +128,10 @@ impl Reading {
             return Err(3);
         }
         let arity = usize::from(self.frames[2 * symbol + 1]);
-        self.numbers[RULES + rules] = listed(fields.at, symbol, state);
-        self.numbers[GRID + key] = fields.rule(rules, states, arity)?;
+        self.numbers[RULES_FROM + rules] = listed(fields.at, symbol, state);
+        self.numbers[GRID_FROM + key] = fields.rule(rules, states, arity)?;
         fields.finish()?;
-        self.numbers[FIRSTS + state + 1] += 1;
+        self.numbers[FIRSTS_FROM + state + 1] += 1;
         self.last = Some(key);
         self.head.rules += 1;
         Ok(())
@@ -147,14 +149,14 @@ impl Reading {
     /// Writes the table that was read; what it has no use for is left as it was.
     fn hand_over(mut self, into: &mut Opened) {
         let Head { states, rules, .. } = self.head;
-        self.numbers[..FIRSTS].copy_from_slice(&self.head.numbers());
+        self.numbers[..FIRSTS_FROM].copy_from_slice(&self.head.numbers());
         for state in 0..states {
-            self.numbers[FIRSTS + state + 1] += self.numbers[FIRSTS + state];
+            self.numbers[FIRSTS_FROM + state + 1] += self.numbers[FIRSTS_FROM + state];
         }
         into.frames[..self.used].copy_from_slice(&self.frames[..self.used]);
-        let head_and_firsts = 0..FIRSTS + states + 1;
-        let grid = GRID..GRID + 64 * states;
-        for part in [head_and_firsts, RULES..RULES + rules, grid] {
+        let head_and_firsts = 0..FIRSTS_FROM + states + 1;
+        let grid = GRID_FROM..GRID_FROM + 64 * states;
+        for part in [head_and_firsts, RULES_FROM..RULES_FROM + rules, grid] {
             into.numbers[part.clone()].copy_from_slice(&self.numbers[part]);
         }
     }

@@ -1,6 +1,8 @@
 //! Opening a table text, fast.
 
-use crate::opened::{kept, listed, one_later, Head, Opened, FIRSTS, FRAMES, GRID, RULES};
+use crate::opened::{
+    kept, listed, one_later, Head, Opened, FIRSTS_FROM, FRAMES, GRID_FROM, RULES_FROM,
+};
 
 /// The value of each lowercase hexadecimal digit, 255 for other characters.
 static VALUES: [u8; 256] = values();
@@ -165,19 +167,19 @@ impl Reading {
     fn hand_over(&self, into: &mut Opened) {
         let Opened { frames, numbers } = into;
         frames[..self.used].copy_from_slice(&self.frames[..self.used]);
-        numbers[..FIRSTS].copy_from_slice(&self.head.numbers());
-        numbers[GRID..GRID + 64 * self.head.states].fill(0);
+        numbers[..FIRSTS_FROM].copy_from_slice(&self.head.numbers());
+        numbers[GRID_FROM..GRID_FROM + 64 * self.head.states].fill(0);
         let mut states = 0;
         for (number, &(listed, kept)) in self.rules[..self.head.rules].iter().enumerate() {
             let key = (listed >> 17) as usize;
             while states <= key / 64 {
-                numbers[FIRSTS + states] = number as u64;
+                numbers[FIRSTS_FROM + states] = number as u64;
                 states += 1;
             }
-            numbers[RULES + number] = listed;
-            numbers[GRID + key] = kept;
+            numbers[RULES_FROM + number] = listed;
+            numbers[GRID_FROM + key] = kept;
         }
-        numbers[FIRSTS + states..=FIRSTS + self.head.states].fill(self.head.rules as u64);
+        numbers[FIRSTS_FROM + states..=FIRSTS_FROM + self.head.states].fill(self.head.rules as u64);
     }
 }
 

@@ -2,7 +2,7 @@
 //! numbers, then writing by the plan, 32 bytes at a time. It trusts the table to be opened. Anything
 //! unusual goes to the plain walk.
 
-use crate::opened::{spot, Opened, Rules, CHILDREN, FRAMES, GRID};
+use crate::opened::{spot, Opened, Rules, CHILDREN, FRAMES, GRID_FROM};
 use crate::plain;
 use crate::proved::LONGEST;
 
@@ -37,7 +37,7 @@ fn measure(
         if f > 63 || level > 63 * 4096 {
             return None;
         }
-        let x = table.numbers[GRID + (state + usize::from(f)) % 4096];
+        let x = table.numbers[GRID_FROM + (state + usize::from(f)) % 4096];
         if x == 0 {
             return None;
         }
