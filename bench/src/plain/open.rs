@@ -147,7 +147,7 @@ impl Reading {
     }
 
     /// Writes the table that was read; what it has no use for is left as it was.
-    fn hand_over(mut self, into: &mut Opened) {
+    fn hand_over(&mut self, into: &mut Opened) {
         let Head { states, rules, .. } = self.head;
         self.numbers[..FIRSTS_FROM].copy_from_slice(&self.head.numbers());
         for state in 0..states {
