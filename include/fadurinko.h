@@ -9,19 +9,23 @@
  * threads if each lends a plan of its own (fadurinko_find_with). How much stack a call takes is said
  * below (FADURINKO_STACK_...).
  *
- * Every call answers with a number: 0 (FADURINKO_YES), or the number of no (the enum below). What
- * else the answer holds goes through its last pointers, and these are always written:
+ * Every call answers with a number: 0 (FADURINKO_YES), or the number of no (enum fadurinko_number).
+ * What else the answer holds goes into one array of FADURINKO_ANSWER entries, which enum
+ * fadurinko_entry names:
  *
- *   on a yes   what the call describes;
- *   on a no    the place in `count` or `place`, and 0 in the others; no other byte changes but in the
- *              plan, which is scratch.
+ *   size_t answer[FADURINKO_ANSWER];
+ *   if (fadurinko_judge_of(text, text_length, answer) != FADURINKO_YES)
+ *       printf("place %zu\n", answer[FADURINKO_PLACE]);
+ *
+ * Every call writes every entry: on a yes what the call describes, on a no the place (and for a
+ * comparison the table), and 0 in all others. On a no, no other byte changes but in the plan, which is
+ * scratch.
  *
  * Pointers. Text, tree and room are a pointer and a length. The calls that end in _of, _table, _in or
  * _with take a null pointer for nothing, whatever length comes with it: a null text is answered with
  * number 1, a null tree with 6, and a null room is a room of length 0. The plain calls under "The
  * calls as they are exported" take no null pointer. No other pointer may be null. What a call writes
- * (room, plan, table, the last pointers) must not overlap with anything else that is given to the same
- * call. */
+ * (room, plan, table, answer) must not overlap with anything else that is given to the same call. */
 
 #ifndef FADURINKO_H
 #define FADURINKO_H
@@ -47,11 +51,11 @@ extern "C" {
  * words of the table. */
 #define FADURINKO_LONGEST ((2 * FADURINKO_TREE + 1) * FADURINKO_LETTERS)
 
-/* How many entries the arrays of an opened table have. */
-#define FADURINKO_FRAMES 16448  /* bytes */
-#define FADURINKO_ENTRIES 4096  /* 64-bit numbers */
-#define FADURINKO_HEAD 7        /* size_t */
+/* How many entries the arrays have that are lent besides. */
+#define FADURINKO_FRAMES 16448  /* bytes of an opened table */
+#define FADURINKO_NUMBERS 4688  /* 64-bit numbers of an opened table */
 #define FADURINKO_PLAN 32768    /* 32-bit numbers: scratch for finding words */
+#define FADURINKO_ANSWER 8      /* size_t of an answer */
 
 /* Bytes of stack that a call takes at most. examples/c/stack.c measures each: it takes more than half
  * of its bound. */
@@ -92,28 +96,37 @@ enum fadurinko_number {
     FADURINKO_NO_SYMBOL_LISTS = 19   /* symbol lists differ; place: the first index where they do */
 };
 
-/* ---- The calls as they are exported. Text, tree and room must not be null, even with length 0. */
+/* The entries of an answer. The others are 0, and kept for later calls: so a later release adds to an
+ * answer and breaks no caller. */
+enum fadurinko_entry {
+    FADURINKO_PLACE = 0,   /* the place of a no; 0 for a yes */
+    FADURINKO_LENGTH = 1,  /* letters of the word, bytes of the form; 0 for a no */
+    FADURINKO_TERMS = 2,   /* the word's letters 0x20 plus one; 0 for a no */
+    FADURINKO_SAME = 3,    /* of a comparison: 1 for same; 0 for different and for a no */
+    FADURINKO_TABLE = 4    /* the table that a comparison's no is about: 1 or 2, and 0 for number 19 */
+};
+
+/* ---- The calls as they are exported. Text, tree and room must not be null, even with length 0. An
+ * answer has FADURINKO_ANSWER entries. */
 
 uint8_t fadurinko_word(const uint8_t *text, size_t text_length, const uint8_t *tree,
-                       size_t tree_length, uint8_t *room, size_t room_length, size_t *count,
-                       size_t *terms);
-uint8_t fadurinko_judge(const uint8_t *text, size_t text_length, size_t *place);
+                       size_t tree_length, uint8_t *room, size_t room_length, size_t *answer);
+uint8_t fadurinko_judge(const uint8_t *text, size_t text_length, size_t *answer);
 uint8_t fadurinko_form(const uint8_t *text, size_t text_length, uint8_t *room, size_t room_length,
-                       size_t *count);
+                       size_t *answer);
 uint8_t fadurinko_compare(const uint8_t *first, size_t first_length, const uint8_t *second,
-                          size_t second_length, size_t *same, size_t *table, size_t *place);
-/* The arrays have FADURINKO_FRAMES, FADURINKO_ENTRIES, FADURINKO_HEAD and FADURINKO_PLAN entries.
- * What the last two calls answer means something only for arrays that fadurinko_open wrote. Whatever
- * stands in them, the calls read and write only what is lent, and their work is linear in the tree,
- * the rules and the room (milliseconds); the room's bytes are then left open. What stands in the plan
- * before a call makes no difference. */
-uint8_t fadurinko_open(const uint8_t *text, size_t text_length, uint8_t *frames, uint64_t *index,
-                       size_t *head, size_t *place);
-uint8_t fadurinko_find(const uint8_t *frames, const uint64_t *index, const size_t *head,
-                       const uint8_t *tree, size_t tree_length, uint32_t *plan, uint8_t *room,
-                       size_t room_length, size_t *count, size_t *terms);
-uint8_t fadurinko_judge_opened(const uint8_t *frames, const uint64_t *index, const size_t *head,
-                               size_t *place);
+                          size_t second_length, size_t *answer);
+/* The arrays have FADURINKO_FRAMES, FADURINKO_NUMBERS and FADURINKO_PLAN entries. What the last two
+ * calls answer means something only for arrays that fadurinko_open wrote. Whatever stands in them, the
+ * calls read and write only what is lent, and their work is linear in the tree, the rules and the room
+ * (milliseconds); the room's bytes are then left open. What stands in the plan before a call makes no
+ * difference. */
+uint8_t fadurinko_open(const uint8_t *text, size_t text_length, uint8_t *frames, uint64_t *numbers,
+                       size_t *answer);
+uint8_t fadurinko_find(const uint8_t *frames, const uint64_t *numbers, const uint8_t *tree,
+                       size_t tree_length, uint32_t *plan, uint8_t *room, size_t room_length,
+                       size_t *answer);
+uint8_t fadurinko_judge_opened(const uint8_t *frames, const uint64_t *numbers, size_t *answer);
 
 /* ---- The calls to use. A null text, tree or room is taken for nothing, whatever its length. */
 
@@ -131,62 +144,63 @@ static inline const uint8_t *fadurinko_bytes(const uint8_t *bytes)
     return bytes != NULL ? bytes : &none;
 }
 
-/* The word of a tree by a table text (no: 1 to 12). Yes: the first `count` bytes of the room are
- * the word and the rest of the room is as it was; `terms` is the number of letters 0x20 plus one. */
+/* The word of a tree by a table text (no: 1 to 12). Yes: the first answer[FADURINKO_LENGTH] bytes of
+ * the room are the word, which has answer[FADURINKO_TERMS] terms, and the rest of the room is as it
+ * was. */
 static inline uint8_t fadurinko_word_of(const uint8_t *text, size_t text_length,
                                         const uint8_t *tree, size_t tree_length, uint8_t *room,
-                                        size_t room_length, size_t *count, size_t *terms)
+                                        size_t room_length, size_t *answer)
 {
     uint8_t none = 0;
     return fadurinko_word(fadurinko_bytes(text), fadurinko_length(text, text_length),
                           fadurinko_bytes(tree), fadurinko_length(tree, tree_length),
-                          room != NULL ? room : &none, fadurinko_length(room, room_length), count,
-                          terms);
+                          room != NULL ? room : &none, fadurinko_length(room, room_length), answer);
 }
 
-/* Whether a table text is earliest (no: 1 to 5, 13 to 18). Yes: it is, and `place` is 0. */
-static inline uint8_t fadurinko_judge_of(const uint8_t *text, size_t text_length, size_t *place)
+/* Whether a table text is earliest (no: 1 to 5, 13 to 18). Yes: it is, and every entry is 0. */
+static inline uint8_t fadurinko_judge_of(const uint8_t *text, size_t text_length, size_t *answer)
 {
-    return fadurinko_judge(fadurinko_bytes(text), fadurinko_length(text, text_length), place);
+    return fadurinko_judge(fadurinko_bytes(text), fadurinko_length(text, text_length), answer);
 }
 
-/* The form of a table text (no: 1 to 5, 13 to 18, then 12). Yes: the first `count` bytes of the
- * room are the form's text and the rest of the room is as it was. */
+/* The form of a table text (no: 1 to 5, 13 to 18, then 12). Yes: the first answer[FADURINKO_LENGTH]
+ * bytes of the room are the form's text and the rest of the room is as it was. */
 static inline uint8_t fadurinko_form_of(const uint8_t *text, size_t text_length, uint8_t *room,
-                                        size_t room_length, size_t *count)
+                                        size_t room_length, size_t *answer)
 {
     uint8_t none = 0;
     return fadurinko_form(fadurinko_bytes(text), fadurinko_length(text, text_length),
-                          room != NULL ? room : &none, fadurinko_length(room, room_length), count);
+                          room != NULL ? room : &none, fadurinko_length(room, room_length), answer);
 }
 
-/* Whether two table texts give every tree the same word (no: 1 to 5 and 13 to 19). Yes: `same` is
- * 1 for the same and 0 for different. No: `table` is 1 or 2, and 0 for number 19. */
+/* Whether two table texts give every tree the same word (no: 1 to 5 and 13 to 19). Yes:
+ * answer[FADURINKO_SAME] is 1 for the same and 0 for different. No: answer[FADURINKO_TABLE] is 1 or 2,
+ * and 0 for number 19. */
 static inline uint8_t fadurinko_compare_of(const uint8_t *first, size_t first_length,
                                            const uint8_t *second, size_t second_length,
-                                           size_t *same, size_t *table, size_t *place)
+                                           size_t *answer)
 {
     return fadurinko_compare(fadurinko_bytes(first), fadurinko_length(first, first_length),
                              fadurinko_bytes(second), fadurinko_length(second, second_length),
-                             same, table, place);
+                             answer);
 }
 
-/* A table that is opened once and finds the words of many trees. About 180 kilobytes, so rather
- * static or allocated than on a small stack. It may be copied as it is. */
+/* A table that is opened once and finds the words of many trees: frames and numbers are what opening
+ * writes, the plan is scratch. About 180 kilobytes, so rather static or allocated than on a small
+ * stack. It may be copied as it is. */
 typedef struct fadurinko_table {
     uint8_t frames[FADURINKO_FRAMES];
-    uint64_t index[FADURINKO_ENTRIES];
-    size_t head[FADURINKO_HEAD];
+    uint64_t numbers[FADURINKO_NUMBERS];
     uint32_t plan[FADURINKO_PLAN];
 } fadurinko_table;
 
 /* Opens a table text (no: 1 to 5). Yes: the table is open, and the text is no longer needed. No:
  * the table is as it was, so a table that was open stays open. */
 static inline uint8_t fadurinko_open_table(fadurinko_table *table, const uint8_t *text,
-                                           size_t text_length, size_t *place)
+                                           size_t text_length, size_t *answer)
 {
     return fadurinko_open(fadurinko_bytes(text), fadurinko_length(text, text_length),
-                          table->frames, table->index, table->head, place);
+                          table->frames, table->numbers, answer);
 }
 
 /* Scratch for finding words, 128 kilobytes: what stands in it makes no difference. */
@@ -195,41 +209,38 @@ typedef struct fadurinko_plan {
 } fadurinko_plan;
 
 /* Finds with numbers of scratch that the next two calls name. */
-static inline uint8_t fadurinko_find_by(const fadurinko_table *table, uint32_t *numbers,
+static inline uint8_t fadurinko_find_by(const fadurinko_table *table, uint32_t *plan,
                                         const uint8_t *tree, size_t tree_length, uint8_t *room,
-                                        size_t room_length, size_t *count, size_t *terms)
+                                        size_t room_length, size_t *answer)
 {
     uint8_t none = 0;
-    return fadurinko_find(table->frames, table->index, table->head, fadurinko_bytes(tree),
-                          fadurinko_length(tree, tree_length), numbers,
-                          room != NULL ? room : &none, fadurinko_length(room, room_length), count,
-                          terms);
+    return fadurinko_find(table->frames, table->numbers, fadurinko_bytes(tree),
+                          fadurinko_length(tree, tree_length), plan, room != NULL ? room : &none,
+                          fadurinko_length(room, room_length), answer);
 }
 
 /* The word of a tree by an open table (no: 6 to 12): as fadurinko_word_of, without reading the text
  * again. Writes to the table's own plan, so it is for one thread at a time. */
 static inline uint8_t fadurinko_find_in(fadurinko_table *table, const uint8_t *tree,
                                         size_t tree_length, uint8_t *room, size_t room_length,
-                                        size_t *count, size_t *terms)
+                                        size_t *answer)
 {
-    return fadurinko_find_by(table, table->plan, tree, tree_length, room, room_length, count,
-                             terms);
+    return fadurinko_find_by(table, table->plan, tree, tree_length, room, room_length, answer);
 }
 
 /* The same with a plan that is lent apart: the table is only read, so any number of threads can find
  * by one table at once, each with a plan of its own. The table's own plan is left alone. */
 static inline uint8_t fadurinko_find_with(const fadurinko_table *table, fadurinko_plan *plan,
                                           const uint8_t *tree, size_t tree_length, uint8_t *room,
-                                          size_t room_length, size_t *count, size_t *terms)
+                                          size_t room_length, size_t *answer)
 {
-    return fadurinko_find_by(table, plan->numbers, tree, tree_length, room, room_length, count,
-                             terms);
+    return fadurinko_find_by(table, plan->numbers, tree, tree_length, room, room_length, answer);
 }
 
-/* Whether an open table is earliest (no: 13 to 18). Yes: it is, and `place` is 0. */
-static inline uint8_t fadurinko_judge_in(const fadurinko_table *table, size_t *place)
+/* Whether an open table is earliest (no: 13 to 18). Yes: it is, and every entry is 0. */
+static inline uint8_t fadurinko_judge_in(const fadurinko_table *table, size_t *answer)
 {
-    return fadurinko_judge_opened(table->frames, table->index, table->head, place);
+    return fadurinko_judge_opened(table->frames, table->numbers, answer);
 }
 
 #ifdef __cplusplus

@@ -4,7 +4,8 @@
 
 use fadurinko_second::table::{self, Child, Initial, Rule, Table};
 
-use crate::proved::{self, Opened, LONGEST};
+use crate::opened::Opened;
+use crate::proved::{self, LONGEST};
 use crate::shapes;
 
 /// A summary as the proved judgement keeps it: letters 0 for none, one more than the letter, 257
@@ -168,7 +169,7 @@ fn late(rule: &Rule, left: &[Ends]) -> bool {
 }
 
 /// The verdict, and the passes for the empty word, the left ends and the right ends.
-fn judged(table: &Table) -> ((u8, usize), [Passes; 3]) {
+fn judged(table: &Table) -> (Result<(), (u8, usize)>, [Passes; 3]) {
     let order = order(table);
     let blanks = blanks(table, &order);
     let lefts = ends(Side::Left, table, &order, &blanks.values);
@@ -186,13 +187,13 @@ fn judged(table: &Table) -> ((u8, usize), [Passes; 3]) {
     let fault = (13..)
         .zip(faults)
         .find_map(|(number, place)| place.map(|place| (number, place)));
-    (fault.unwrap_or((0, 0)), [blanks, lefts, rights])
+    (fault.map_or(Ok(()), Err), [blanks, lefts, rights])
 }
 
 fn checked_passes(table: &Table) -> [Passes; 3] {
     let (verdict, counts) = judged(table);
     let mut opened = Opened::blank();
-    assert_eq!(proved::open(&shapes::text(table), &mut opened), (0, 0));
+    assert_eq!(proved::open(&shapes::text(table), &mut opened), Ok(()));
     assert_eq!(proved::judge_opened(&opened), verdict);
     counts
 }
@@ -312,7 +313,7 @@ fn checked_rows(table: &Table) -> Work {
     let mut room = vec![0; LONGEST];
     assert_eq!(
         proved::form(&shapes::text(table), &mut room),
-        (0, form.len())
+        Ok(form.len())
     );
     assert!(room[..form.len()] == form);
     work

@@ -5,7 +5,8 @@ use std::hint::black_box;
 use fadurinko_second::form as second;
 
 use crate::best;
-use crate::proved::{self, Opened, LONGEST};
+use crate::opened::Opened;
+use crate::proved::{self, LONGEST};
 use crate::shapes::{self, Shaped};
 use crate::task::{checking, hand, wanted, Task};
 use crate::tuned;
@@ -19,7 +20,7 @@ fn agree(text: &[u8]) {
     let (mut one, mut other, mut third) = (room(), room(), room());
     let form = second::form_text(text).expect("every shape is earliest");
     let n = form.len();
-    assert_eq!(proved::form(text, &mut one), (0, n));
+    assert_eq!(proved::form(text, &mut one), Ok(n));
     assert_eq!(
         tuned::form::form(text, &mut Opened::blank(), &mut other),
         Ok(n)

@@ -7,20 +7,13 @@ use fadurinko_second::refusal::Refusal;
 use fadurinko_second::table::{self, Table};
 
 use crate::best;
-use crate::proved::{self, Opened};
+use crate::opened::Opened;
+use crate::proved;
 use crate::shapes::{self, Shaped};
 use crate::task::{checking, hand, wanted, Task};
 use crate::tuned;
 
 type Answer = Result<(), (u8, usize)>;
-
-fn told((number, place): (u8, usize)) -> Answer {
-    if number == 0 {
-        Ok(())
-    } else {
-        Err((number, place))
-    }
-}
 
 fn second_told(judged: Result<(), Refusal>) -> Answer {
     judged.map_err(|no| (no.number, no.place))
@@ -28,19 +21,19 @@ fn second_told(judged: Result<(), Refusal>) -> Answer {
 
 fn opened(text: &[u8]) -> Opened {
     let mut opened = Opened::blank();
-    assert_eq!(proved::open(text, &mut opened), (0, 0));
+    assert_eq!(proved::open(text, &mut opened), Ok(()));
     opened
 }
 
 fn agree(text: &[u8]) {
-    let answer = told(proved::judge(text));
+    let answer = proved::judge(text);
     assert_eq!(answer, second_told(second::judge(text)));
     assert_eq!(answer, tuned::judge::judge(text, &mut Opened::blank()));
     assert_eq!(answer, best::judge::judge(text));
 }
 
 fn agree_opened(opened: &Opened, read: &Table) {
-    let answer = told(proved::judge_opened(opened));
+    let answer = proved::judge_opened(opened);
     assert_eq!(answer, second_told(second::judge_table(read)));
     assert_eq!(answer, tuned::judge::judge_opened(opened));
     assert_eq!(answer, best::opened::judge_opened(opened));

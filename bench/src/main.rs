@@ -10,6 +10,7 @@ mod form;
 mod grow;
 mod judge;
 mod open;
+mod opened;
 mod plain;
 mod proved;
 mod shapes;

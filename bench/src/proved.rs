@@ -1,10 +1,15 @@
 //! The proved calls, as the archive exports them.
 
-pub const FRAMES: usize = 16448;
-pub const ENTRIES: usize = 4096;
+use crate::opened::{Opened, FRAMES, NUMBERS};
+
 pub const LONGEST: usize = 32768;
 
+/// What a call hands out: the place of a no, length, terms, same, table, and entries that are 0.
+type Handed = [usize; 8];
+
 mod raw {
+    use super::{Handed, FRAMES, LONGEST, NUMBERS};
+
     extern "C" {
         pub fn fadurinko_word(
             text: *const u8,
@@ -13,116 +18,103 @@ mod raw {
             tree_len: usize,
             room: *mut u8,
             room_len: usize,
-            count: *mut usize,
-            terms: *mut usize,
+            answer: *mut Handed,
         ) -> u8;
-        pub fn fadurinko_judge(text: *const u8, text_len: usize, place: *mut usize) -> u8;
+        pub fn fadurinko_judge(text: *const u8, text_len: usize, answer: *mut Handed) -> u8;
         pub fn fadurinko_form(
             text: *const u8,
             text_len: usize,
             room: *mut u8,
             room_len: usize,
-            count: *mut usize,
+            answer: *mut Handed,
         ) -> u8;
         pub fn fadurinko_compare(
             first: *const u8,
             first_len: usize,
             second: *const u8,
             second_len: usize,
-            same: *mut usize,
-            table: *mut usize,
-            place: *mut usize,
+            answer: *mut Handed,
         ) -> u8;
         pub fn fadurinko_open(
             text: *const u8,
             text_len: usize,
-            frames: *mut [u8; super::FRAMES],
-            index: *mut [u64; super::ENTRIES],
-            head: *mut [usize; 7],
-            place: *mut usize,
+            frames: *mut [u8; FRAMES],
+            numbers: *mut [u64; NUMBERS],
+            answer: *mut Handed,
         ) -> u8;
         pub fn fadurinko_find(
-            frames: *const [u8; super::FRAMES],
-            index: *const [u64; super::ENTRIES],
-            head: *const [usize; 7],
+            frames: *const [u8; FRAMES],
+            numbers: *const [u64; NUMBERS],
             tree: *const u8,
             tree_len: usize,
-            plan: *mut [u32; super::LONGEST],
+            plan: *mut [u32; LONGEST],
             room: *mut u8,
             room_len: usize,
-            count: *mut usize,
-            terms: *mut usize,
+            answer: *mut Handed,
         ) -> u8;
         pub fn fadurinko_judge_opened(
-            frames: *const [u8; super::FRAMES],
-            index: *const [u64; super::ENTRIES],
-            head: *const [usize; 7],
-            place: *mut usize,
+            frames: *const [u8; FRAMES],
+            numbers: *const [u64; NUMBERS],
+            answer: *mut Handed,
         ) -> u8;
     }
 }
 
-/// An opened table: its bytes, its index and its head.
-pub struct Opened {
-    pub frames: Box<[u8; FRAMES]>,
-    pub index: Box<[u64; ENTRIES]>,
-    pub head: [usize; 7],
-}
+/// A number of no and its place.
+type No = (u8, usize);
 
-impl Opened {
-    pub fn blank() -> Opened {
-        Opened {
-            frames: Box::new([0; FRAMES]),
-            index: Box::new([0; ENTRIES]),
-            head: [0; 7],
-        }
+/// What a call handed out, or its no.
+fn answered(call: impl FnOnce(&mut Handed) -> u8) -> Result<Handed, No> {
+    let mut answer = [0; 8];
+    match call(&mut answer) {
+        0 => Ok(answer),
+        number => Err((number, answer[0])),
     }
 }
 
-/// The number of no (0 for a yes) and the place.
-pub fn open(text: &[u8], into: &mut Opened) -> (u8, usize) {
-    let mut place = 0;
-    let number = unsafe {
+fn word_found([_, length, terms, ..]: Handed) -> (usize, usize) {
+    (length, terms)
+}
+
+pub fn open(text: &[u8], into: &mut Opened) -> Result<(), No> {
+    let Opened { frames, numbers } = into;
+    answered(|answer| unsafe {
         raw::fadurinko_open(
             text.as_ptr(),
             text.len(),
-            &mut *into.frames,
-            &mut *into.index,
-            &mut into.head,
-            &mut place,
+            &mut **frames,
+            &mut **numbers,
+            answer,
         )
-    };
-    (number, place)
+    })
+    .map(drop)
 }
 
-/// The number of no, length or place, terms.
+/// Length and terms.
 pub fn find(
     table: &Opened,
     tree: &[u8],
     plan: &mut [u32; LONGEST],
     room: &mut [u8],
-) -> (u8, usize, usize) {
-    let (mut count, mut terms) = (0, 0);
-    let number = unsafe {
+) -> Result<(usize, usize), No> {
+    answered(|answer| unsafe {
         raw::fadurinko_find(
             &*table.frames,
-            &*table.index,
-            &table.head,
+            &*table.numbers,
             tree.as_ptr(),
             tree.len(),
             plan,
             room.as_mut_ptr(),
             room.len(),
-            &mut count,
-            &mut terms,
+            answer,
         )
-    };
-    (number, count, terms)
+    })
+    .map(word_found)
 }
 
-pub fn word(text: &[u8], tree: &[u8], room: &mut [u8]) -> (u8, usize, usize) {
-    let (mut count, mut terms) = (0, 0);
-    let number = unsafe {
+/// Length and terms.
+pub fn word(text: &[u8], tree: &[u8], room: &mut [u8]) -> Result<(usize, usize), No> {
+    answered(|answer| unsafe {
         raw::fadurinko_word(
             text.as_ptr(),
             text.len(),
@@ -130,55 +122,52 @@ pub fn word(text: &[u8], tree: &[u8], room: &mut [u8]) -> (u8, usize, usize) {
             tree.len(),
             room.as_mut_ptr(),
             room.len(),
-            &mut count,
-            &mut terms,
+            answer,
         )
-    };
-    (number, count, terms)
+    })
+    .map(word_found)
 }
 
-pub fn judge(text: &[u8]) -> (u8, usize) {
-    let mut place = 0;
-    let number = unsafe { raw::fadurinko_judge(text.as_ptr(), text.len(), &mut place) };
-    (number, place)
+pub fn judge(text: &[u8]) -> Result<(), No> {
+    answered(|answer| unsafe { raw::fadurinko_judge(text.as_ptr(), text.len(), answer) }).map(drop)
 }
 
-pub fn judge_opened(table: &Opened) -> (u8, usize) {
-    let mut place = 0;
-    let number = unsafe {
-        raw::fadurinko_judge_opened(&*table.frames, &*table.index, &table.head, &mut place)
-    };
-    (number, place)
+pub fn judge_opened(table: &Opened) -> Result<(), No> {
+    answered(|answer| unsafe {
+        raw::fadurinko_judge_opened(&*table.frames, &*table.numbers, answer)
+    })
+    .map(drop)
 }
 
-/// The number of no, and the form's length or the place.
-pub fn form(text: &[u8], room: &mut [u8]) -> (u8, usize) {
-    let mut count = 0;
-    let number = unsafe {
+/// The form's length.
+pub fn form(text: &[u8], room: &mut [u8]) -> Result<usize, No> {
+    answered(|answer| unsafe {
         raw::fadurinko_form(
             text.as_ptr(),
             text.len(),
             room.as_mut_ptr(),
             room.len(),
-            &mut count,
+            answer,
         )
-    };
-    (number, count)
+    })
+    .map(|[_, length, ..]| length)
 }
 
-/// The number of no, whether the tables are the same, which table, the place.
-pub fn compare(first: &[u8], second: &[u8]) -> (u8, bool, usize, usize) {
-    let (mut same, mut table, mut place) = (0, 0, 0);
+/// Whether the tables are the same, or the number of no, the table that it is about, the place.
+pub fn compare(first: &[u8], second: &[u8]) -> Result<bool, (u8, usize, usize)> {
+    let mut answer = [0; 8];
     let number = unsafe {
         raw::fadurinko_compare(
             first.as_ptr(),
             first.len(),
             second.as_ptr(),
             second.len(),
-            &mut same,
-            &mut table,
-            &mut place,
+            &mut answer,
         )
     };
-    (number, same == 1, table, place)
+    let [place, _, _, same, table, ..] = answer;
+    match number {
+        0 => Ok(same == 1),
+        _ => Err((number, table, place)),
+    }
 }

@@ -2,8 +2,9 @@
 
 use crate::best;
 use crate::grow;
+use crate::opened::Opened;
 use crate::plain;
-use crate::proved::{self, Opened, LONGEST};
+use crate::proved::{self, LONGEST};
 use crate::task::{checking, wanted, Task, Work};
 use crate::tuned;
 use fadurinko_second::refusal::{put_into_room, Refusal};
@@ -40,7 +41,7 @@ fn length(given: &Given) -> usize {
 
 fn case(given: Vec<Given>) -> Case {
     let mut opened = Opened::blank();
-    assert_eq!(proved::open(given[0].text, &mut opened), (0, 0));
+    assert_eq!(proved::open(given[0].text, &mut opened), Ok(()));
     let second = kept(table::read(given[0].text).expect("the text is a table"));
     let longest = given.iter().map(length).max().expect("there is a tree");
     Case {
@@ -61,14 +62,6 @@ fn plan() -> Box<[u32; LONGEST]> {
 }
 
 type Answer = Result<(usize, usize), (u8, usize)>;
-
-fn told((number, count, terms): (u8, usize, usize)) -> Answer {
-    if number == 0 {
-        Ok((count, terms))
-    } else {
-        Err((number, count))
-    }
-}
 
 fn second_told(answer: Result<walk::Found, Refusal>) -> Answer {
     answer
@@ -128,7 +121,7 @@ fn opened_hands(case: &Case) -> Vec<Hand> {
     let walker = Walker::new(case.second);
     vec![
         Hand::new("proved", case, move |given, room| {
-            told(proved::find(table, &given.tree, &mut one, room))
+            proved::find(table, &given.tree, &mut one, room)
         }),
         Hand::new("plain", case, move |given, room| {
             plain::word::find(table, &given.tree, &mut out, room)
@@ -153,7 +146,7 @@ fn text_hands(case: &Case) -> Vec<Hand> {
     let (mut best_table, mut other) = (Opened::blank(), plan());
     vec![
         Hand::new("proved", case, move |given, room| {
-            told(proved::word(given.text, &given.tree, room))
+            proved::word(given.text, &given.tree, room)
         }),
         Hand::new("plain", case, move |given, room| {
             plain::open::open(given.text, &mut plain_table)?;
@@ -177,7 +170,8 @@ fn text_hands(case: &Case) -> Vec<Hand> {
 fn copying(case: &Case) -> (&'static str, Work) {
     let mut room = room(case);
     let mut word_of = |given: &Given| {
-        let length = proved::word(given.text, &given.tree, &mut room).1;
+        let found = proved::word(given.text, &given.tree, &mut room);
+        let (length, _) = found.expect("every tree has a word");
         room[..length].to_vec()
     };
     let words: Vec<Vec<u8>> = case.given.iter().map(&mut word_of).collect();

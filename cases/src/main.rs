@@ -1,9 +1,13 @@
 //! `cases SEED COUNT` compares the exported calls with the second program on COUNT table texts, COUNT
-//! trees and COUNT pairs of texts: numbers, places, counts, every byte of the room and the bytes on
-//! both sides of it. Up to 4,000 tables are damaged or made up besides: the calls on them must come to
-//! an end in time and write only where they may. Exit status 1 if anything differs.
+//! trees and COUNT pairs of texts: numbers, every entry of an answer, every byte of the room and the
+//! bytes on both sides of it, every byte and number of an opened table. Up to 4,000 tables are damaged
+//! or made up besides: the calls on them must come to an end in time and write only where they may.
+//! Exit status 1 if anything differs.
 
+mod answer;
 mod damaged;
+mod layout;
+mod made_up;
 mod opened;
 mod report;
 mod room;

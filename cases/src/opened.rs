@@ -1,44 +1,35 @@
 //! The arrays of an opened table, full of other things before it is opened.
 
 use fadurinko::lent;
-use fadurinko::limit::{ENTRIES, FRAMES, HEAD, PLAN};
+use fadurinko::limit::{FRAMES, NUMBERS, PLAN};
+use fadurinko_second::refusal::Refusal;
 use fadurinko_second::rng::Rng;
+use fadurinko_second::table::Table;
+
+use crate::answer::{told, Told};
 
 #[derive(Clone, PartialEq)]
 pub struct Arrays {
     pub frames: Box<[u8; FRAMES]>,
-    pub index: Box<[u64; ENTRIES]>,
-    pub head: [usize; HEAD],
+    pub numbers: Box<[u64; NUMBERS]>,
 }
 
 impl Arrays {
     pub fn copy_from(&mut self, other: &Arrays) {
         *self.frames = *other.frames;
-        *self.index = *other.index;
-        self.head = other.head;
+        *self.numbers = *other.numbers;
     }
 
-    /// The number and the place.
-    pub fn judge(&self) -> (u8, usize) {
-        let mut place = usize::MAX;
-        let number = lent::judge_opened(&self.frames, &self.index, &self.head, &mut place);
-        (number, place)
+    pub fn open(&mut self, text: &[u8]) -> Told {
+        told(|answer| lent::open(text, &mut self.frames, &mut self.numbers, answer))
     }
 
-    /// The number, and the length or place with the terms.
-    pub fn find(&self, tree: &[u8], plan: &mut [u32; PLAN], room: &mut [u8]) -> (u8, [usize; 2]) {
-        let (mut count, mut terms) = (usize::MAX, usize::MAX);
-        let number = lent::find(
-            &self.frames,
-            &self.index,
-            &self.head,
-            tree,
-            plan,
-            room,
-            &mut count,
-            &mut terms,
-        );
-        (number, [count, terms])
+    pub fn judge(&self) -> Told {
+        told(|answer| lent::judge_opened(&self.frames, &self.numbers, answer))
+    }
+
+    pub fn find(&self, tree: &[u8], plan: &mut [u32; PLAN], room: &mut [u8]) -> Told {
+        told(|answer| lent::find(&self.frames, &self.numbers, tree, plan, room, answer))
     }
 }
 
@@ -62,8 +53,7 @@ impl Opened {
         let mut rng = Rng::new(seed ^ 0x6469_7274);
         let dirt = Arrays {
             frames: boxed(|| rng.byte()),
-            index: boxed(|| rng.below(usize::MAX) as u64),
-            head: [(); HEAD].map(|()| rng.below(usize::MAX)),
+            numbers: boxed(|| rng.below(usize::MAX) as u64),
         };
         Opened {
             arrays: dirt.clone(),
@@ -73,31 +63,33 @@ impl Opened {
         }
     }
 
-    /// Opens a text into arrays that were filled with other things: the number, the place, and
-    /// whether a refused text left them alone.
-    pub fn open(&mut self, text: &[u8]) -> (u8, usize, Result<(), &'static str>) {
+    /// Opens a text, which the second program read so, into arrays that were filled with other things:
+    /// the answer, and whether the arrays are as is due. A refused text leaves them alone.
+    pub fn open(
+        &mut self,
+        text: &[u8],
+        read: &Result<Table, Refusal>,
+    ) -> (Told, Result<(), &'static str>) {
+        self.before.copy_from(&self.dirt);
+        if let Ok(table) = read {
+            self.before.lay_out(text, table);
+        }
         self.arrays.copy_from(&self.dirt);
-        let mut place = usize::MAX;
-        let Arrays {
-            frames,
-            index,
-            head,
-        } = &mut self.arrays;
-        let number = lent::open(text, frames, index, head, &mut place);
-        let left_alone = if number != 0 && self.arrays != self.dirt {
-            Err("a refused text changed the arrays")
-        } else {
-            Ok(())
+        let told = self.arrays.open(text);
+        let as_is_due = match read {
+            _ if self.arrays == self.before => Ok(()),
+            Ok(_) => Err("the opened table is another"),
+            Err(_) => Err("a refused text changed the arrays"),
         };
         self.before.copy_from(&self.arrays);
-        (number, place, left_alone)
+        (told, as_is_due)
     }
 
-    pub fn judge(&self) -> (u8, usize) {
+    pub fn judge(&self) -> Told {
         self.arrays.judge()
     }
 
-    pub fn find(&mut self, tree: &[u8], room: &mut [u8]) -> (u8, [usize; 2]) {
+    pub fn find(&mut self, tree: &[u8], room: &mut [u8]) -> Told {
         self.arrays.find(tree, &mut self.plan, room)
     }
 

@@ -6,7 +6,9 @@ use fadurinko_second::form::form_text;
 use fadurinko_second::gen::{pairs, tables};
 use fadurinko_second::judge::judge;
 use fadurinko_second::refusal::{Refusal, ROOM};
+use fadurinko_second::table;
 
+use crate::answer::{compared, due, put, refused, refused_about, told, Told};
 use crate::opened::Opened;
 use crate::report::{Call, Report};
 use crate::room::Rooms;
@@ -14,18 +16,6 @@ use crate::room::Rooms;
 pub struct Tables {
     seed: u64,
     opened: Opened,
-}
-
-/// The number and the place of an answer that holds nothing.
-fn numbers(answer: Result<(), Refusal>) -> (u8, usize) {
-    match answer {
-        Ok(()) => (0, 0),
-        Err(refusal) => (refusal.number, refusal.place),
-    }
-}
-
-fn is_about_the_text(number: u8) -> bool {
-    (1..=5).contains(&number)
 }
 
 impl Tables {
@@ -40,42 +30,20 @@ impl Tables {
         let seed = self.seed;
         let text = tables::case(seed, index).text;
         let name = || format!("seed {seed}, tables {index}");
-        let judged = numbers(judge(&text));
-        self.judge(&text, judged, report, name);
+        let judged = due(&judge(&text));
+        report.input(Call::Judge);
+        let mine = told(|answer| lent::judge(&text, answer));
+        report.call(Call::Judge, mine, judged, Ok(()), name);
         self.open(&text, judged, report, name);
         form(&text, rooms, report, name);
     }
 
-    fn judge(
-        &self,
-        text: &[u8],
-        theirs: (u8, usize),
-        report: &mut Report,
-        name: impl Fn() -> String,
-    ) {
-        let mut place = usize::MAX;
-        let number = lent::judge(text, &mut place);
-        report.input(Call::Judge);
-        report.call(Call::Judge, (number, place), theirs, Ok(()), name);
-    }
-
-    /// The second program's judgement tells what opening answers too.
-    fn open(
-        &mut self,
-        text: &[u8],
-        judged: (u8, usize),
-        report: &mut Report,
-        name: impl Fn() -> String,
-    ) {
-        let theirs = if is_about_the_text(judged.0) {
-            judged
-        } else {
-            (0, 0)
-        };
-        let (number, place, left_alone) = self.opened.open(text);
+    fn open(&mut self, text: &[u8], judged: Told, report: &mut Report, name: impl Fn() -> String) {
+        let read = table::read(text);
+        let (mine, arrays) = self.opened.open(text, &read);
         report.input(Call::Open);
-        report.call(Call::Open, (number, place), theirs, left_alone, &name);
-        if number == 0 {
+        report.call(Call::Open, mine, due(&read), arrays, &name);
+        if mine.0 == 0 {
             report.input(Call::JudgeOpened);
             report.call(Call::JudgeOpened, self.opened.judge(), judged, Ok(()), name);
         }
@@ -85,22 +53,14 @@ impl Tables {
         let seed = self.seed;
         let case = pairs::case(seed, index);
         let theirs = match compare(&case.first, &case.second) {
-            Ok(answer) => (0, [usize::from(answer == Comparison::Same), 0, 0]),
-            Err(no) => (
-                no.refusal.number,
-                [0, usize::from(no.table), no.refusal.place],
-            ),
+            Ok(answer) => compared(answer == Comparison::Same),
+            Err(no) => refused_about(no.table, no.refusal),
         };
-        let [mut same, mut table, mut place] = [usize::MAX; 3];
-        let number = lent::compare(&case.first, &case.second, &mut same, &mut table, &mut place);
+        let mine = told(|answer| lent::compare(&case.first, &case.second, answer));
         report.input(Call::Compare);
-        report.call(
-            Call::Compare,
-            (number, [same, table, place]),
-            theirs,
-            Ok(()),
-            || format!("seed {seed}, pairs {index}"),
-        );
+        report.call(Call::Compare, mine, theirs, Ok(()), || {
+            format!("seed {seed}, pairs {index}")
+        });
     }
 }
 
@@ -113,18 +73,13 @@ fn form(text: &[u8], rooms: &mut Rooms, report: &mut Report, name: impl Fn() -> 
     };
     for length in lengths {
         let (theirs, output) = match &formed {
-            Ok(form) if form.len() <= length => ((0, form.len()), &form[..]),
-            Ok(form) => ((ROOM, form.len()), &b""[..]),
-            Err(refusal) => ((refusal.number, refusal.place), &b""[..]),
+            Ok(form) if form.len() <= length => (put(form.len(), 0), &form[..]),
+            Ok(form) => (refused(Refusal::new(ROOM, form.len())), &b""[..]),
+            Err(refusal) => (refused(*refusal), &b""[..]),
         };
-        let mut count = usize::MAX;
-        let number = lent::form(text, rooms.lend(length), &mut count);
-        report.call(
-            Call::Form,
-            (number, count),
-            theirs,
-            rooms.holds(output),
-            || format!("{}, room {length}", name()),
-        );
+        let mine = told(|answer| lent::form(text, rooms.lend(length), answer));
+        report.call(Call::Form, mine, theirs, rooms.holds(output), || {
+            format!("{}, room {length}", name())
+        });
     }
 }

@@ -7,6 +7,7 @@ use fadurinko_second::refusal::{Refusal, ROOM};
 use fadurinko_second::table::{self, Table};
 use fadurinko_second::walk::{Found, Walker};
 
+use crate::answer::{due, put, refused, told, Told};
 use crate::opened::Opened;
 use crate::report::{Call, Report};
 use crate::room::Rooms;
@@ -53,9 +54,6 @@ pub struct Trees {
     word: Vec<u8>,
 }
 
-/// The number, and the length or place with the terms.
-type Answer = (u8, [usize; 2]);
-
 impl Trees {
     pub fn new(seed: u64) -> Trees {
         Trees {
@@ -92,15 +90,10 @@ impl Trees {
     }
 
     fn open(&mut self, report: &mut Report) {
-        let theirs = match &self.case.table {
-            Ok(_) => (0, 0),
-            Err(refusal) => (refusal.number, refusal.place),
-        };
-        let (number, place, left_alone) = self.opened.open(&self.case.text);
+        let case = &self.case;
+        let (mine, arrays) = self.opened.open(&case.text, &case.table);
         report.input(Call::Open);
-        report.call(Call::Open, (number, place), theirs, left_alone, || {
-            self.case.name()
-        });
+        report.call(Call::Open, mine, due(&case.table), arrays, || case.name());
     }
 
     fn in_a_room(
@@ -112,16 +105,14 @@ impl Trees {
     ) {
         let case = &self.case;
         let tree = &case.trees[case.line];
-        let (theirs, output): (Answer, &[u8]) = match found {
-            Ok(found) if found.length <= length => ((0, [found.length, found.terms]), &self.word),
-            Ok(found) => ((ROOM, [found.length, 0]), b""),
-            Err(refusal) => ((refusal.number, [refusal.place, 0]), b""),
+        let (theirs, output): (Told, &[u8]) = match found {
+            Ok(found) if found.length <= length => (put(found.length, found.terms), &self.word),
+            Ok(found) => (refused(Refusal::new(ROOM, found.length)), b""),
+            Err(refusal) => (refused(refusal), b""),
         };
         let name = || format!("{}, room {length}", case.name());
 
-        let [mut count, mut terms] = [usize::MAX; 2];
-        let number = lent::word(&case.text, tree, rooms.lend(length), &mut count, &mut terms);
-        let mine = (number, [count, terms]);
+        let mine = told(|answer| lent::word(&case.text, tree, rooms.lend(length), answer));
         report.call(Call::Word, mine, theirs, rooms.holds(output), name);
 
         if case.table.is_ok() {

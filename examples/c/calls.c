@@ -22,16 +22,48 @@ static const uint8_t TREE[] = {0, 2, 2};
 
 static int answers, wrong;
 
-/* An answer: its number and up to three more numbers, and what is expected. */
-static void expect(const char *call, uint8_t number, size_t a, size_t b, size_t c,
-                   uint8_t number_due, size_t a_due, size_t b_due, size_t c_due)
+/* What the calls hand out; every call must write every entry of it. */
+static size_t answer[FADURINKO_ANSWER];
+
+static void forget(void)
 {
+    for (size_t i = 0; i < FADURINKO_ANSWER; i++)
+        answer[i] = 99;
+}
+
+/* An answer: its number, and the entries that are due, of which those behind the table are 0. */
+static void expect(const char *call, uint8_t number, uint8_t number_due, const size_t *due)
+{
+    int differs = number != number_due;
+    for (size_t i = 0; i < FADURINKO_ANSWER; i++)
+        differs |= answer[i] != (i <= FADURINKO_TABLE ? due[i] : 0);
     answers++;
-    if (number != number_due || a != a_due || b != b_due || c != c_due) {
+    if (differs) {
         wrong++;
-        printf("%s: %u %zu %zu %zu, expected %u %zu %zu %zu\n", call, (unsigned)number, a, b, c,
-               (unsigned)number_due, a_due, b_due, c_due);
+        printf("%s: number %u, expected %u; entries", call, (unsigned)number, (unsigned)number_due);
+        for (size_t i = 0; i < FADURINKO_ANSWER; i++)
+            printf(" %zu", answer[i]);
+        printf(", expected %zu %zu %zu %zu %zu\n", due[0], due[1], due[2], due[3], due[4]);
     }
+    forget();
+}
+
+/* A no at a place. */
+static void expect_no(const char *call, uint8_t number, uint8_t number_due, size_t place)
+{
+    expect(call, number, number_due, (size_t[]){place, 0, 0, 0, 0});
+}
+
+/* A no of a comparison, about a table. */
+static void expect_no_about(const char *call, uint8_t number, uint8_t number_due, size_t table)
+{
+    expect(call, number, number_due, (size_t[]){0, 0, 0, 0, table});
+}
+
+/* A yes: length, terms, same. */
+static void expect_yes(const char *call, uint8_t number, size_t length, size_t terms, size_t same)
+{
+    expect(call, number, FADURINKO_YES, (size_t[]){0, length, terms, same, 0});
 }
 
 #define GUARD 64
@@ -61,21 +93,20 @@ static void expect_bytes(const char *call, const void *output, size_t length)
 static void words(void)
 {
     const uint8_t *old = (const uint8_t *)OLD;
-    size_t count = 99, terms = 99;
-    uint8_t number = fadurinko_word_of(NULL, 0, NULL, 0, NULL, 0, &count, &terms);
-    expect("word, nothing given", number, count, terms, 0, FADURINKO_NO_TEXT_SIZE, 0, 0, 0);
-    number = fadurinko_word_of(old, OLD_LENGTH, NULL, 0, NULL, 0, &count, &terms);
-    expect("word, no tree", number, count, terms, 0, FADURINKO_NO_TREE_SIZE, 0, 0, 0);
-    number = fadurinko_word_of(old, OLD_LENGTH, TREE, 3, NULL, 0, &count, &terms);
-    expect("word, no room", number, count, terms, 0, FADURINKO_NO_ROOM, 3, 0, 0);
-    number = fadurinko_word_of(old, OLD_LENGTH, TREE, 3, room(), 2, &count, &terms);
-    expect("word, short room", number, count, terms, 0, FADURINKO_NO_ROOM, 3, 0, 0);
+    uint8_t number = fadurinko_word_of(NULL, 0, NULL, 0, NULL, 0, answer);
+    expect_no("word, nothing given", number, FADURINKO_NO_TEXT_SIZE, 0);
+    number = fadurinko_word_of(old, OLD_LENGTH, NULL, 0, NULL, 0, answer);
+    expect_no("word, no tree", number, FADURINKO_NO_TREE_SIZE, 0);
+    number = fadurinko_word_of(old, OLD_LENGTH, TREE, 3, NULL, 0, answer);
+    expect_no("word, no room", number, FADURINKO_NO_ROOM, 3);
+    number = fadurinko_word_of(old, OLD_LENGTH, TREE, 3, room(), 2, answer);
+    expect_no("word, short room", number, FADURINKO_NO_ROOM, 3);
     expect_bytes("word, short room", "", 0);
-    number = fadurinko_word_of(old, OLD_LENGTH, TREE, 3, room(), 3, &count, &terms);
-    expect("word", number, count, terms, 0, FADURINKO_YES, 3, 1, 0);
+    number = fadurinko_word_of(old, OLD_LENGTH, TREE, 3, room(), 3, answer);
+    expect_yes("word", number, 3, 1, 0);
     expect_bytes("word", "x,x", 3);
-    number = fadurinko_word_of(old, OLD_LENGTH, TREE, 2, room(), 3, &count, &terms);
-    expect("word, tree cut", number, count, terms, 0, FADURINKO_NO_TREE_STOPS, 2, 0, 0);
+    number = fadurinko_word_of(old, OLD_LENGTH, TREE, 2, room(), 3, answer);
+    expect_no("word, tree cut", number, FADURINKO_NO_TREE_STOPS, 2);
     expect_bytes("word, tree cut", "", 0);
 }
 
@@ -83,101 +114,107 @@ static void texts(void)
 {
     const uint8_t *old = (const uint8_t *)OLD, *form = (const uint8_t *)FORM;
     const uint8_t *late = (const uint8_t *)LATE;
-    size_t count = 99, same = 99, table = 99, place = 99;
-    uint8_t number = fadurinko_judge_of(NULL, 0, &place);
-    expect("judge, no text", number, place, 0, 0, FADURINKO_NO_TEXT_SIZE, 0, 0, 0);
-    number = fadurinko_judge_of(old, OLD_LENGTH, &place);
-    expect("judge", number, place, 0, 0, FADURINKO_YES, 0, 0, 0);
-    number = fadurinko_judge_of(late, LATE_LENGTH, &place);
-    expect("judge, late", number, place, 0, 0, FADURINKO_NO_PREFIX, 0, 0, 0);
-    number = fadurinko_form_of(NULL, 0, NULL, 0, &count);
-    expect("form, no text", number, count, 0, 0, FADURINKO_NO_TEXT_SIZE, 0, 0, 0);
-    number = fadurinko_form_of(old, OLD_LENGTH, NULL, 0, &count);
-    expect("form, no room", number, count, 0, 0, FADURINKO_NO_ROOM, FORM_LENGTH, 0, 0);
-    number = fadurinko_form_of(old, OLD_LENGTH, room(), FADURINKO_TEXT, &count);
-    expect("form", number, count, 0, 0, FADURINKO_YES, FORM_LENGTH, 0, 0);
+    uint8_t number = fadurinko_judge_of(NULL, 0, answer);
+    expect_no("judge, no text", number, FADURINKO_NO_TEXT_SIZE, 0);
+    number = fadurinko_judge_of(old, OLD_LENGTH, answer);
+    expect_yes("judge", number, 0, 0, 0);
+    number = fadurinko_judge_of(late, LATE_LENGTH, answer);
+    expect_no("judge, late", number, FADURINKO_NO_PREFIX, 0);
+    number = fadurinko_form_of(NULL, 0, NULL, 0, answer);
+    expect_no("form, no text", number, FADURINKO_NO_TEXT_SIZE, 0);
+    number = fadurinko_form_of(old, OLD_LENGTH, NULL, 0, answer);
+    expect_no("form, no room", number, FADURINKO_NO_ROOM, FORM_LENGTH);
+    number = fadurinko_form_of(old, OLD_LENGTH, room(), FADURINKO_TEXT, answer);
+    expect_yes("form", number, FORM_LENGTH, 0, 0);
     expect_bytes("form", FORM, FORM_LENGTH);
-    number = fadurinko_compare_of(NULL, 0, NULL, 0, &same, &table, &place);
-    expect("compare, no texts", number, same, table, place, FADURINKO_NO_TEXT_SIZE, 0, 1, 0);
-    number = fadurinko_compare_of(old, OLD_LENGTH, form, FORM_LENGTH, &same, &table, &place);
-    expect("compare", number, same, table, place, FADURINKO_YES, 1, 0, 0);
-    number = fadurinko_compare_of(old, OLD_LENGTH, late, LATE_LENGTH, &same, &table, &place);
-    expect("compare, late", number, same, table, place, FADURINKO_NO_PREFIX, 0, 2, 0);
+    number = fadurinko_compare_of(NULL, 0, NULL, 0, answer);
+    expect_no_about("compare, no texts", number, FADURINKO_NO_TEXT_SIZE, 1);
+    number = fadurinko_compare_of(old, OLD_LENGTH, form, FORM_LENGTH, answer);
+    expect_yes("compare", number, 0, 0, 1);
+    number = fadurinko_compare_of(old, OLD_LENGTH, late, LATE_LENGTH, answer);
+    expect_no_about("compare, late", number, FADURINKO_NO_PREFIX, 2);
 }
 
 /* Null with a length above 0 lends nothing, so nothing is read or written behind it. */
 static void nothing_lent(void)
 {
     const uint8_t *old = (const uint8_t *)OLD;
-    size_t count = 99, terms = 99, same = 99, table = 99, place = 99;
-    uint8_t number = fadurinko_word_of(NULL, OLD_LENGTH, TREE, 3, room(), 3, &count, &terms);
-    expect("word, null text", number, count, terms, 0, FADURINKO_NO_TEXT_SIZE, 0, 0, 0);
-    number = fadurinko_word_of(old, OLD_LENGTH, NULL, 3, room(), 3, &count, &terms);
-    expect("word, null tree", number, count, terms, 0, FADURINKO_NO_TREE_SIZE, 0, 0, 0);
-    number = fadurinko_word_of(old, OLD_LENGTH, TREE, 3, NULL, 3, &count, &terms);
-    expect("word, null room", number, count, terms, 0, FADURINKO_NO_ROOM, 3, 0, 0);
-    number = fadurinko_judge_of(NULL, OLD_LENGTH, &place);
-    expect("judge, null text", number, place, 0, 0, FADURINKO_NO_TEXT_SIZE, 0, 0, 0);
-    number = fadurinko_form_of(NULL, OLD_LENGTH, room(), FADURINKO_TEXT, &count);
-    expect("form, null text", number, count, 0, 0, FADURINKO_NO_TEXT_SIZE, 0, 0, 0);
-    number = fadurinko_form_of(old, OLD_LENGTH, NULL, FORM_LENGTH, &count);
-    expect("form, null room", number, count, 0, 0, FADURINKO_NO_ROOM, FORM_LENGTH, 0, 0);
-    number = fadurinko_compare_of(NULL, OLD_LENGTH, old, OLD_LENGTH, &same, &table, &place);
-    expect("compare, first null", number, same, table, place, FADURINKO_NO_TEXT_SIZE, 0, 1, 0);
-    number = fadurinko_compare_of(old, OLD_LENGTH, NULL, OLD_LENGTH, &same, &table, &place);
-    expect("compare, second null", number, same, table, place, FADURINKO_NO_TEXT_SIZE, 0, 2, 0);
+    uint8_t number = fadurinko_word_of(NULL, OLD_LENGTH, TREE, 3, room(), 3, answer);
+    expect_no("word, null text", number, FADURINKO_NO_TEXT_SIZE, 0);
+    number = fadurinko_word_of(old, OLD_LENGTH, NULL, 3, room(), 3, answer);
+    expect_no("word, null tree", number, FADURINKO_NO_TREE_SIZE, 0);
+    number = fadurinko_word_of(old, OLD_LENGTH, TREE, 3, NULL, 3, answer);
+    expect_no("word, null room", number, FADURINKO_NO_ROOM, 3);
+    number = fadurinko_judge_of(NULL, OLD_LENGTH, answer);
+    expect_no("judge, null text", number, FADURINKO_NO_TEXT_SIZE, 0);
+    number = fadurinko_form_of(NULL, OLD_LENGTH, room(), FADURINKO_TEXT, answer);
+    expect_no("form, null text", number, FADURINKO_NO_TEXT_SIZE, 0);
+    number = fadurinko_form_of(old, OLD_LENGTH, NULL, FORM_LENGTH, answer);
+    expect_no("form, null room", number, FADURINKO_NO_ROOM, FORM_LENGTH);
+    number = fadurinko_compare_of(NULL, OLD_LENGTH, old, OLD_LENGTH, answer);
+    expect_no_about("compare, first null", number, FADURINKO_NO_TEXT_SIZE, 1);
+    number = fadurinko_compare_of(old, OLD_LENGTH, NULL, OLD_LENGTH, answer);
+    expect_no_about("compare, second null", number, FADURINKO_NO_TEXT_SIZE, 2);
 }
 
 static fadurinko_table table, as_it_was;
 static fadurinko_plan plan;
 
+static void expect_as_it_was(const char *call)
+{
+    answers++;
+    if (memcmp(&as_it_was, &table, sizeof table) != 0) {
+        wrong++;
+        printf("%s: the table is another\n", call);
+    }
+}
+
 static void opened(void)
 {
-    size_t count = 99, terms = 99, place = 99;
-    uint8_t number = fadurinko_open_table(&table, (const uint8_t *)OLD, OLD_LENGTH, &place);
-    expect("open", number, place, 0, 0, FADURINKO_YES, 0, 0, 0);
+    uint8_t number = fadurinko_open_table(&table, (const uint8_t *)OLD, OLD_LENGTH, answer);
+    expect_yes("open", number, 0, 0, 0);
     memcpy(&as_it_was, &table, sizeof table);
-    number = fadurinko_open_table(&table, NULL, 0, &place);
-    expect("open, no text", number, place, 0, 0, FADURINKO_NO_TEXT_SIZE, 0, 0, 0);
-    number = fadurinko_open_table(&table, (const uint8_t *)OLD, 9, &place);
-    expect("open, text cut", number, place, 0, 0, FADURINKO_NO_LINE, 5, 0, 0);
-    expect("open, refused", 0, (size_t)memcmp(&as_it_was, &table, sizeof table), 0, 0, 0, 0, 0, 0);
-    number = fadurinko_find_in(&table, NULL, 0, NULL, 0, &count, &terms);
-    expect("find, no tree", number, count, terms, 0, FADURINKO_NO_TREE_SIZE, 0, 0, 0);
-    number = fadurinko_find_in(&table, TREE, 3, NULL, 0, &count, &terms);
-    expect("find, no room", number, count, terms, 0, FADURINKO_NO_ROOM, 3, 0, 0);
-    number = fadurinko_find_in(&table, TREE, 3, room(), 40, &count, &terms);
-    expect("find", number, count, terms, 0, FADURINKO_YES, 3, 1, 0);
+    number = fadurinko_open_table(&table, NULL, 0, answer);
+    expect_no("open, no text", number, FADURINKO_NO_TEXT_SIZE, 0);
+    number = fadurinko_open_table(&table, (const uint8_t *)OLD, 9, answer);
+    expect_no("open, text cut", number, FADURINKO_NO_LINE, 5);
+    expect_as_it_was("open, refused");
+    number = fadurinko_find_in(&table, NULL, 0, NULL, 0, answer);
+    expect_no("find, no tree", number, FADURINKO_NO_TREE_SIZE, 0);
+    number = fadurinko_find_in(&table, TREE, 3, NULL, 0, answer);
+    expect_no("find, no room", number, FADURINKO_NO_ROOM, 3);
+    number = fadurinko_find_in(&table, TREE, 3, room(), 40, answer);
+    expect_yes("find", number, 3, 1, 0);
     expect_bytes("find", "x,x", 3);
-    number = fadurinko_judge_in(&table, &place);
-    expect("judge, opened", number, place, 0, 0, FADURINKO_YES, 0, 0, 0);
+    number = fadurinko_judge_in(&table, answer);
+    expect_yes("judge, opened", number, 0, 0, 0);
 }
 
 /* An open table that is only read, with a plan of its own beside it; null here too. */
 static void plan_apart(void)
 {
     const fadurinko_table *read_only = &table;
-    size_t count = 99, terms = 99, place = 99;
     memcpy(&as_it_was, &table, sizeof table);
     memset(&plan, 0xff, sizeof plan);
-    uint8_t number = fadurinko_find_with(read_only, &plan, TREE, 3, room(), 40, &count, &terms);
-    expect("find with", number, count, terms, 0, FADURINKO_YES, 3, 1, 0);
+    uint8_t number = fadurinko_find_with(read_only, &plan, TREE, 3, room(), 40, answer);
+    expect_yes("find with", number, 3, 1, 0);
     expect_bytes("find with", "x,x", 3);
-    number = fadurinko_find_with(read_only, &plan, TREE, 3, NULL, 40, &count, &terms);
-    expect("find with, null room", number, count, terms, 0, FADURINKO_NO_ROOM, 3, 0, 0);
-    number = fadurinko_find_with(read_only, &plan, NULL, 3, room(), 40, &count, &terms);
-    expect("find with, null tree", number, count, terms, 0, FADURINKO_NO_TREE_SIZE, 0, 0, 0);
-    expect("find with", 0, (size_t)memcmp(&as_it_was, &table, sizeof table), 0, 0, 0, 0, 0, 0);
-    number = fadurinko_find_in(&table, TREE, 3, NULL, 40, &count, &terms);
-    expect("find, null room", number, count, terms, 0, FADURINKO_NO_ROOM, 3, 0, 0);
-    number = fadurinko_find_in(&table, NULL, 3, room(), 40, &count, &terms);
-    expect("find, null tree", number, count, terms, 0, FADURINKO_NO_TREE_SIZE, 0, 0, 0);
-    number = fadurinko_open_table(&table, NULL, OLD_LENGTH, &place);
-    expect("open, null text", number, place, 0, 0, FADURINKO_NO_TEXT_SIZE, 0, 0, 0);
+    number = fadurinko_find_with(read_only, &plan, TREE, 3, NULL, 40, answer);
+    expect_no("find with, null room", number, FADURINKO_NO_ROOM, 3);
+    number = fadurinko_find_with(read_only, &plan, NULL, 3, room(), 40, answer);
+    expect_no("find with, null tree", number, FADURINKO_NO_TREE_SIZE, 0);
+    expect_as_it_was("find with");
+    number = fadurinko_find_in(&table, TREE, 3, NULL, 40, answer);
+    expect_no("find, null room", number, FADURINKO_NO_ROOM, 3);
+    number = fadurinko_find_in(&table, NULL, 3, room(), 40, answer);
+    expect_no("find, null tree", number, FADURINKO_NO_TREE_SIZE, 0);
+    number = fadurinko_open_table(&table, NULL, OLD_LENGTH, answer);
+    expect_no("open, null text", number, FADURINKO_NO_TEXT_SIZE, 0);
 }
 
 int main(void)
 {
+    forget();
     words();
     texts();
     nothing_lent();

@@ -131,45 +131,42 @@ static void write_tree(void)
 static fadurinko_table table;
 static fadurinko_plan plan;
 static uint8_t room[FADURINKO_LONGEST];
-static size_t room_length, given_length, numbers[3];
+static size_t room_length, given_length, answer[FADURINKO_ANSWER];
 static uint8_t number;
 
 static void call_word(void)
 {
-    number = fadurinko_word_of(text, text_length, tree, given_length, room, room_length,
-                               &numbers[0], &numbers[1]);
+    number = fadurinko_word_of(text, text_length, tree, given_length, room, room_length, answer);
 }
 
 static void call_judge(void)
 {
-    number = fadurinko_judge_of(text, text_length, &numbers[0]);
+    number = fadurinko_judge_of(text, text_length, answer);
 }
 
 static void call_form(void)
 {
-    number = fadurinko_form_of(text, text_length, room, sizeof room, &numbers[0]);
+    number = fadurinko_form_of(text, text_length, room, sizeof room, answer);
 }
 
 static void call_compare(void)
 {
-    number = fadurinko_compare_of(text, text_length, text, text_length, &numbers[0], &numbers[1],
-                                  &numbers[2]);
+    number = fadurinko_compare_of(text, text_length, text, text_length, answer);
 }
 
 static void call_open(void)
 {
-    number = fadurinko_open_table(&table, text, text_length, &numbers[0]);
+    number = fadurinko_open_table(&table, text, text_length, answer);
 }
 
 static void call_find(void)
 {
-    number = fadurinko_find_with(&table, &plan, tree, given_length, room, room_length, &numbers[0],
-                                 &numbers[1]);
+    number = fadurinko_find_with(&table, &plan, tree, given_length, room, room_length, answer);
 }
 
 static void call_judge_opened(void)
 {
-    number = fadurinko_judge_in(&table, &numbers[0]);
+    number = fadurinko_judge_in(&table, answer);
 }
 
 /* ---- What they take. */

@@ -63,11 +63,11 @@ static void *find_all(void *given)
 {
     worker *mine = given;
     for (size_t i = 0; i < ROUNDS * TREES; i++) {
-        size_t at = (mine->first + i) % TREES, count = 0, terms = 0;
+        size_t at = (mine->first + i) % TREES, answer[FADURINKO_ANSWER];
         uint8_t number = fadurinko_find_with(mine->table, &mine->plan, trees[at], tree_lengths[at],
-                                             mine->room, ROOM, &count, &terms);
-        if (number != FADURINKO_YES || count != word_lengths[at]
-            || memcmp(mine->room, words[at], count) != 0)
+                                             mine->room, ROOM, answer);
+        if (number != FADURINKO_YES || answer[FADURINKO_LENGTH] != word_lengths[at]
+            || memcmp(mine->room, words[at], word_lengths[at]) != 0)
             mine->others++;
     }
     return NULL;
@@ -76,23 +76,23 @@ static void *find_all(void *given)
 /* The words on one thread, each by the text itself. */
 static int find_first(void)
 {
-    size_t terms = 0;
+    size_t answer[FADURINKO_ANSWER];
     for (size_t at = 0; at < TREES; at++) {
         grow(at, 12);
         uint8_t number = fadurinko_word_of((const uint8_t *)TEXT, TEXT_LENGTH, trees[at],
-                                           tree_lengths[at], words[at], ROOM, &word_lengths[at],
-                                           &terms);
+                                           tree_lengths[at], words[at], ROOM, answer);
         if (number != FADURINKO_YES)
             return 0;
+        word_lengths[at] = answer[FADURINKO_LENGTH];
     }
     return 1;
 }
 
 int main(void)
 {
-    size_t place = 0, others = 0;
+    size_t answer[FADURINKO_ANSWER], others = 0;
     pthread_t threads[THREADS];
-    if (fadurinko_open_table(&opened, (const uint8_t *)TEXT, TEXT_LENGTH, &place) > 0
+    if (fadurinko_open_table(&opened, (const uint8_t *)TEXT, TEXT_LENGTH, answer) > 0
         || !find_first()) {
         printf("the table or a tree was refused\n");
         return 1;

@@ -71,19 +71,19 @@ static int guarded(const uint8_t *guard)
 }
 
 /* Prints the answer for `tree`. Asks with no room first: number 12 says how much is needed. */
-static int answer(size_t tree_length)
+static int answer_tree(size_t tree_length)
 {
-    size_t count = 0, terms = 0;
+    size_t answer[FADURINKO_ANSWER];
     uint8_t *lent = NULL, *room = NULL;
-    uint8_t number = fadurinko_find_in(&table, tree, tree_length, NULL, 0, &count, &terms);
+    uint8_t number = fadurinko_find_in(&table, tree, tree_length, NULL, 0, answer);
     if (number == FADURINKO_NO_ROOM) {
-        size_t needed = count;
+        size_t needed = answer[FADURINKO_PLACE];
         lent = malloc(needed + 2 * GUARD);
         if (lent == NULL)
             return 0;
         memset(lent, GUARD_BYTE, needed + 2 * GUARD);
         room = lent + GUARD;
-        number = fadurinko_find_in(&table, tree, tree_length, room, needed, &count, &terms);
+        number = fadurinko_find_in(&table, tree, tree_length, room, needed, answer);
         if (!guarded(lent) || !guarded(room + needed)) {
             fprintf(stderr, "a byte outside the room was written\n");
             free(lent);
@@ -91,12 +91,13 @@ static int answer(size_t tree_length)
         }
     }
     if (number == FADURINKO_YES) {
-        printf("word %zu %zu%s", count, terms, count > 0 ? " " : "");
-        for (size_t i = 0; i < count; i++)
+        size_t length = answer[FADURINKO_LENGTH];
+        printf("word %zu %zu%s", length, answer[FADURINKO_TERMS], length > 0 ? " " : "");
+        for (size_t i = 0; i < length; i++)
             printf("%02x", room[i]);
         printf("\n");
     } else {
-        printf("no %u %zu\n", (unsigned)number, count);
+        printf("no %u %zu\n", (unsigned)number, answer[FADURINKO_PLACE]);
     }
     free(lent);
     return 1;
@@ -107,7 +108,7 @@ int main(int arguments, char **words)
     const char *const *trees = OWN_TREES;
     size_t count = sizeof OWN_TREES / sizeof OWN_TREES[0];
     size_t length = sizeof OWN_TABLE - 1;
-    size_t place = 0;
+    size_t answer[FADURINKO_ANSWER];
     int status = 0;
     if (arguments > 1) {
         if (!read_file(words[1], &length))
@@ -117,9 +118,9 @@ int main(int arguments, char **words)
     } else {
         memcpy(text, OWN_TABLE, length);
     }
-    uint8_t number = fadurinko_open_table(&table, text, length, &place);
+    uint8_t number = fadurinko_open_table(&table, text, length, answer);
     if (number != FADURINKO_YES) {
-        printf("no %u %zu\n", (unsigned)number, place);
+        printf("no %u %zu\n", (unsigned)number, answer[FADURINKO_PLACE]);
         return 0;
     }
     for (size_t i = 0; i < count; i++) {
@@ -127,7 +128,7 @@ int main(int arguments, char **words)
         if (!read_tree(trees[i], &tree_length)) {
             fprintf(stderr, "%s: not lowercase hexadecimal\n", trees[i]);
             status = 2;
-        } else if (!answer(tree_length)) {
+        } else if (!answer_tree(tree_length)) {
             status = 2;
         }
     }

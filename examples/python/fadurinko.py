@@ -22,30 +22,42 @@ import os
 import sys
 import threading
 
-FRAMES, ENTRIES, HEAD, PLAN = 16448, 4096, 7, 32768
+# Of the limits and sizes that the header has, those that are used here.
 TEXT = 32768
+FRAMES = 16448
+NUMBERS = 4688
+PLAN = 32768
+ANSWER = 8
 ROOM_TOO_SHORT = 12
 
 _HERE = os.path.dirname(os.path.abspath(__file__))
 _LIBRARY = os.environ.get("FADURINKO_SO") or os.path.join(_HERE, "..", "..", "target", "libfadurinko.so")
 _calls = ctypes.CDLL(_LIBRARY)
 
+
+class _Answer(ctypes.Structure):
+    """What a call hands out besides its number: one array of ANSWER entries, of which five have a use."""
+
+    _named = ("place", "length", "terms", "same", "table")
+    _fields_ = [(name, ctypes.c_size_t) for name in _named]
+    _fields_ += [("kept_for_later", ctypes.c_size_t * (ANSWER - len(_named)))]
+
+
 _BYTES = [ctypes.c_char_p, ctypes.c_size_t]
 _ROOM = [ctypes.POINTER(ctypes.c_char), ctypes.c_size_t]
-_NUMBER = [ctypes.POINTER(ctypes.c_size_t)]
+_HANDED = [ctypes.POINTER(_Answer)]
 _FRAMES = ctypes.c_ubyte * FRAMES
-_INDEX = ctypes.c_uint64 * ENTRIES
-_HEAD = ctypes.c_size_t * HEAD
+_NUMBERS = ctypes.c_uint64 * NUMBERS
 _PLAN = ctypes.c_uint32 * PLAN
-_ARRAYS = [ctypes.POINTER(each) for each in (_FRAMES, _INDEX, _HEAD)]
+_ARRAYS = [ctypes.POINTER(_FRAMES), ctypes.POINTER(_NUMBERS)]
 
 _PARAMETERS = {
-    "fadurinko_judge": _BYTES + _NUMBER,
-    "fadurinko_form": _BYTES + _ROOM + _NUMBER,
-    "fadurinko_compare": _BYTES + _BYTES + 3 * _NUMBER,
-    "fadurinko_open": _BYTES + _ARRAYS + _NUMBER,
-    "fadurinko_find": _ARRAYS + _BYTES + [ctypes.POINTER(_PLAN)] + _ROOM + 2 * _NUMBER,
-    "fadurinko_judge_opened": _ARRAYS + _NUMBER,
+    "fadurinko_judge": _BYTES + _HANDED,
+    "fadurinko_form": _BYTES + _ROOM + _HANDED,
+    "fadurinko_compare": _BYTES + _BYTES + _HANDED,
+    "fadurinko_open": _BYTES + _ARRAYS + _HANDED,
+    "fadurinko_find": _ARRAYS + _BYTES + [ctypes.POINTER(_PLAN)] + _ROOM + _HANDED,
+    "fadurinko_judge_opened": _ARRAYS + _HANDED,
 }
 for _name, _parameters in _PARAMETERS.items():
     getattr(_calls, _name).argtypes = _parameters
@@ -93,38 +105,37 @@ def _bytes(given):
         raise TypeError(f"a text or tree must be bytes or have a buffer, not {type(given).__name__}") from None
 
 
-def _numbers(count):
-    return [ctypes.c_size_t() for _ in range(count)]
+def _answered(call, *given):
+    """The answer of a call, which is raised if it is a no."""
+    answer = _Answer()
+    number = call(*given, answer)
+    if number:
+        raise No(number, answer.place)
+    return answer
 
 
 def judge(text):
     """Nothing if the table text is earliest."""
     text = _bytes(text)
-    (place,) = _numbers(1)
-    number = _calls.fadurinko_judge(text, len(text), place)
-    if number:
-        raise No(number, place.value)
+    _answered(_calls.fadurinko_judge, text, len(text))
 
 
 def form(text):
     """The form's text. It is never longer than the table's."""
     text = _bytes(text)
-    (count,) = _numbers(1)
     room = ctypes.create_string_buffer(min(len(text), TEXT) + 1)
-    number = _calls.fadurinko_form(text, len(text), room, len(room), count)
-    if number:
-        raise No(number, count.value)
-    return room.raw[: count.value]
+    answer = _answered(_calls.fadurinko_form, text, len(text), room, len(room))
+    return room.raw[: answer.length]
 
 
 def compare(first, second):
     """Whether two table texts give every tree the same word."""
     first, second = _bytes(first), _bytes(second)
-    same, table, place = _numbers(3)
-    number = _calls.fadurinko_compare(first, len(first), second, len(second), same, table, place)
+    answer = _Answer()
+    number = _calls.fadurinko_compare(first, len(first), second, len(second), answer)
     if number:
-        raise No(number, place.value, table.value)
-    return same.value == 1
+        raise No(number, answer.place, answer.table)
+    return answer.same == 1
 
 
 class Table:
@@ -136,42 +147,33 @@ class Table:
 
     def __init__(self, text):
         self._text = _bytes(text)
-        self._arrays = (_FRAMES(), _INDEX(), _HEAD())
-        (place,) = _numbers(1)
-        number = _calls.fadurinko_open(self._text, len(self._text), *self._arrays, place)
-        if number:
-            raise No(number, place.value)
+        self._arrays = (_FRAMES(), _NUMBERS())
+        _answered(_calls.fadurinko_open, self._text, len(self._text), *self._arrays)
 
     def __reduce__(self):
         return type(self), (self._text,)
 
-    def _find(self, tree, room):
-        count, terms = _numbers(2)
-        # ctypes needs a buffer of its own where the room is empty.
-        buffer = room if room is not None else ctypes.create_string_buffer(1)
-        length = 0 if room is None else len(room)
-        number = _calls.fadurinko_find(*self._arrays, tree, len(tree), _own.plan, buffer, length, count, terms)
-        return number, count.value
+    def _find(self, tree, length):
+        """The word in a room of this length."""
+        # ctypes needs a buffer where the room is empty too.
+        room = ctypes.create_string_buffer(max(length, 1))
+        answer = _answered(_calls.fadurinko_find, *self._arrays, tree, len(tree), _own.plan, room, length)
+        return room.raw[: answer.length]
 
     def word(self, tree):
         """The word of a tree, which is given as its symbols in preorder, a byte each."""
         tree = _bytes(tree)
-        number, count = self._find(tree, None)
-        if number == ROOM_TOO_SHORT:
-            room = ctypes.create_string_buffer(count)
-            number, count = self._find(tree, room)
-            if number == 0:
-                return room.raw[:count]
-        if number:
-            raise No(number, count)
-        return b""
+        try:
+            return self._find(tree, 0)
+        except No as no:
+            if no.number != ROOM_TOO_SHORT:
+                raise
+            needed = no.place
+        return self._find(tree, needed)
 
     def judge(self):
         """Nothing if the table is earliest."""
-        (place,) = _numbers(1)
-        number = _calls.fadurinko_judge_opened(*self._arrays, place)
-        if number:
-            raise No(number, place.value)
+        _answered(_calls.fadurinko_judge_opened, *self._arrays)
 
 
 def _example(folder):

@@ -3,39 +3,32 @@
 //! risen, by sets of states in a number of 64 bits.
 
 use super::rows::No;
-use crate::proved::{Opened, FRAMES};
+use crate::opened::{spot, Head, Opened, FIRSTS_FROM, FRAMES};
 use crate::tuned::judge::{bit, both, byte, joined, letter, pass, stuck, Ends, EMPTY, SEVERAL};
 
-/// A row: its children as a set, where its first and its last word stand, its state, and its number
-/// of children.
+/// A row: its children as a set, where its first and its last word stand, and its number of children.
 struct Row {
     below: u64,
     at: u16,
     last: u16,
-    state: u8,
     kids: u8,
 }
 
-/// The row at `at`, and where what follows it stands.
+/// The row whose first word stands at `at`.
 #[inline(always)]
-fn row_at(frames: &[u8; FRAMES], at: usize) -> (Row, usize) {
-    let kids = frames[2 * (byte(frames, at + 2) & 63) + 1];
-    let (mut last, mut below) = (at + 3, 0);
-    let mut length = byte(frames, last);
+fn row_at(frames: &[u8; FRAMES], at: usize) -> Row {
+    let kids = frames[2 * (byte(frames, at - 1) & 63) + 1];
+    let (mut last, mut below) = (at, 0);
     for _ in 0..kids {
-        below |= bit(byte(frames, last + length + 1));
-        last += length + 2;
-        length = byte(frames, last);
+        last += byte(frames, last) + 2;
+        below |= bit(byte(frames, last - 1));
     }
-    let state = frames[(at + 1) & 16383] & 63;
-    let row = Row {
+    Row {
         below,
-        at: (at + 3) as u16,
+        at: at as u16,
         last: last as u16,
-        state,
         kids,
-    };
-    (row, last + length + 1)
+    }
 }
 
 /// The rows, where each state's begin, and each state's children.
@@ -53,22 +46,28 @@ impl Summed {
 }
 
 fn summed(table: &Opened) -> Summed {
-    let (mut at, rules) = (table.head[5], table.head[6]);
-    let mut rows = Vec::with_capacity(rules);
-    let (mut starts, mut below) = ([0; 65], [0; 64]);
-    for _ in 0..rules {
-        let (row, next) = row_at(&table.frames, at);
-        starts[usize::from(row.state & 63) + 1] += 1;
-        below[usize::from(row.state & 63)] |= row.below;
-        rows.push(row);
-        at = next;
+    let Head { states, rules, .. } = table.head();
+    let mut summed = Summed {
+        rows: Vec::with_capacity(rules),
+        starts: [0; 65],
+        below: [0; 64],
+    };
+    let row = |rule| row_at(&table.frames, spot(table.rules(), rule));
+    summed.rows.extend((0..rules).map(row));
+    for (start, &first) in summed.starts[..=states]
+        .iter_mut()
+        .zip(&table.numbers[FIRSTS_FROM..])
+    {
+        *start = first as u16;
     }
-    (0..64).for_each(|state| starts[state + 1] += starts[state]);
-    Summed {
-        rows,
-        starts,
-        below,
+    for state in 0..states {
+        let below = summed
+            .rows_of(state)
+            .iter()
+            .fold(0, |set, row| set | row.below);
+        summed.below[state] = below;
     }
+    summed
 }
 
 /// The highest state of a set, and the others.
@@ -227,7 +226,12 @@ fn least_late(frames: &[u8; FRAMES], rows: &[Row], left: &[Ends; 64]) -> Option<
 }
 
 pub fn judge_opened(table: &Opened) -> Result<(), No> {
-    let [_, states, start, _, after, ..] = table.head;
+    let Head {
+        states,
+        start,
+        after,
+        ..
+    } = table.head();
     let summed = summed(table);
     let marks = reached(&summed, start);
     let left = ends(&table.frames, &summed, states, left_of);

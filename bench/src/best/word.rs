@@ -1,8 +1,14 @@
-//! The word of a tree by an opened table: measured as the tuned hand does, and written by a loop
-//! over words instead of a recursion over the tree.
+//! The word of a tree by an opened table: measured as the tuned hand does, but with places in the plan,
+//! and written by a loop over words instead of a recursion over the tree.
 
-use crate::proved::{Opened, FRAMES, LONGEST};
+use crate::opened::{kids_in, rule_in, spot, Opened, Rules, FRAMES};
+use crate::proved::LONGEST;
 use crate::tuned::word::{find_by, put, Answer};
+
+/// A rule is planned as where its first word stands, and from 16,384 on how many children it has.
+fn placed(kept: u64, rules: &Rules) -> u32 {
+    (spot(rules, rule_in(kept)) | kids_in(kept) << 14) as u32
+}
 
 /// A rule is where its next word stands, and from 16,384 on how many children are left. Behind a
 /// word comes the next planned rule if children are left, else the rule that waits; no branch
@@ -27,5 +33,5 @@ fn write_in_turn(frames: &[u8; FRAMES], plan: &[u32; LONGEST], room: &mut [u8]) 
 }
 
 pub fn find(table: &Opened, tree: &[u8], plan: &mut [u32; LONGEST], room: &mut [u8]) -> Answer {
-    find_by(table, tree, plan, room, write_in_turn)
+    find_by(table, tree, plan, room, placed, write_in_turn)
 }

@@ -1,7 +1,9 @@
-//! Opening a table text, straightforwardly: the lines in turn into bytes and an index of its own,
-//! which are handed over in the end.
+//! Opening a table text, straightforwardly: the lines in turn into bytes and numbers of its own, which
+//! are handed over in the end.
 
-use crate::proved::{Opened, ENTRIES, FRAMES};
+use crate::opened::{
+    kept, listed, one_later, Head, Opened, FIRSTS_FROM, FRAMES, GRID_FROM, NUMBERS, RULES_FROM,
+};
 use fadurinko_second::limits::{MAX_ARITY, MAX_RULES, MAX_STATES, MAX_SYMBOLS, MAX_TEXT, MAX_WORD};
 
 #[derive(Clone, Copy, PartialEq)]
@@ -15,8 +17,8 @@ enum Phase {
 struct Reading {
     frames: [u8; FRAMES],
     used: usize,
-    index: [u64; ENTRIES],
-    head: [usize; 7],
+    numbers: [u64; NUMBERS],
+    head: Head,
     last: Option<usize>,
     phase: Phase,
 }
@@ -34,8 +36,8 @@ impl Reading {
         Reading {
             frames: [0; FRAMES],
             used: 0,
-            index: [0; ENTRIES],
-            head: [0; 7],
+            numbers: [0; NUMBERS],
+            head: Head::default(),
             last: None,
             phase: Phase::Symbols,
         }
@@ -59,7 +61,7 @@ impl Reading {
         let at = self.used + 1;
         match (self.frames[self.used], self.phase) {
             (1, Phase::Symbols) => self.take_symbol(at, end)?,
-            (2, Phase::Symbols) if self.head[0] > 0 => self.take_start(at, end)?,
+            (2, Phase::Symbols) if self.head.symbols > 0 => self.take_start(at, end)?,
             (3, Phase::Rules) => self.take_rule(at, end)?,
             (4, Phase::Rules) => self.take_end(at, end)?,
             _ => return Err(3),
@@ -69,7 +71,7 @@ impl Reading {
     }
 
     fn take_symbol(&mut self, at: usize, end: usize) -> Result<(), u8> {
-        if self.head[0] == MAX_SYMBOLS {
+        if self.head.symbols == MAX_SYMBOLS {
             return Err(4);
         }
         let mut fields = Fields {
@@ -78,7 +80,7 @@ impl Reading {
         };
         fields.number(0, usize::from(MAX_ARITY))?;
         fields.finish()?;
-        self.head[0] += 1;
+        self.head.symbols += 1;
         Ok(())
     }
 
@@ -94,13 +96,24 @@ impl Reading {
         let after = fields.at;
         fields.word()?;
         fields.finish()?;
-        self.head = [self.head[0], states, start, before, after, end, 0];
+        self.head = Head {
+            states,
+            start,
+            before,
+            after,
+            ..self.head
+        };
         self.phase = Phase::Rules;
         Ok(())
     }
 
     fn take_rule(&mut self, at: usize, end: usize) -> Result<(), u8> {
-        let [symbols, states, .., rules] = self.head;
+        let Head {
+            symbols,
+            states,
+            rules,
+            ..
+        } = self.head;
         if rules == MAX_RULES {
             return Err(4);
         }
@@ -115,10 +128,12 @@ impl Reading {
             return Err(3);
         }
         let arity = usize::from(self.frames[2 * symbol + 1]);
-        self.index[key] = fields.rule(states, arity)?;
+        self.numbers[RULES_FROM + rules] = listed(fields.at, symbol, state);
+        self.numbers[GRID_FROM + key] = fields.rule(rules, states, arity)?;
         fields.finish()?;
+        self.numbers[FIRSTS_FROM + state + 1] += 1;
         self.last = Some(key);
-        self.head[6] += 1;
+        self.head.rules += 1;
         Ok(())
     }
 
@@ -129,6 +144,21 @@ impl Reading {
             at,
         }
         .finish()
+    }
+
+    /// Writes the table that was read; what it has no use for is left as it was.
+    fn hand_over(&mut self, into: &mut Opened) {
+        let Head { states, rules, .. } = self.head;
+        self.numbers[..FIRSTS_FROM].copy_from_slice(&self.head.numbers());
+        for state in 0..states {
+            self.numbers[FIRSTS_FROM + state + 1] += self.numbers[FIRSTS_FROM + state];
+        }
+        into.frames[..self.used].copy_from_slice(&self.frames[..self.used]);
+        let head_and_firsts = 0..FIRSTS_FROM + states + 1;
+        let grid = GRID_FROM..GRID_FROM + 64 * states;
+        for part in [head_and_firsts, RULES_FROM..RULES_FROM + rules, grid] {
+            into.numbers[part.clone()].copy_from_slice(&self.numbers[part]);
+        }
     }
 }
 
@@ -156,22 +186,20 @@ impl<'frame> Fields<'frame> {
         Ok(word)
     }
 
-    /// The entry of a rule whose fields stand here.
-    fn rule(&mut self, states: usize, arity: usize) -> Result<u64, u8> {
-        let at = self.at as u64;
-        let mut word = self.word()?;
-        let (mut letters, mut first, mut rest) = (word.len() as u64, 0, 0);
+    /// What is kept for a rule whose fields stand here.
+    fn rule(&mut self, number: usize, states: usize, arity: usize) -> Result<u64, u8> {
+        let mut letters = self.word()?.len() as u64;
+        let (mut first, mut later) = (0, 0);
         for child in 0..arity {
             let state = self.number(0, states - 1)? as u64;
             if child == 0 {
                 first = state
             } else {
-                rest = rest * 64 + state
+                later = one_later(later, state)
             }
-            word = self.word()?;
-            letters += word.len() as u64;
+            letters += self.word()?.len() as u64;
         }
-        Ok(letters | at << 8 | first << 22 | rest << 36 | (arity as u64) << 54)
+        Ok(kept(letters, number, first, later, arity))
     }
 
     fn finish(&self) -> Result<(), u8> {
@@ -204,8 +232,6 @@ pub fn open(text: &[u8], into: &mut Opened) -> Result<(), (u8, usize)> {
     if reading.phase != Phase::Ended {
         return Err((3, text.len()));
     }
-    *into.frames = reading.frames;
-    *into.index = reading.index;
-    into.head = reading.head;
+    reading.hand_over(into);
     Ok(())
 }

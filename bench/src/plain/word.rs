@@ -1,7 +1,7 @@
 //! The second program's walk on the bytes that the proved `open` gives: the shape, then a recursive
 //! walk that pushes onto a vector.
 
-use crate::proved::Opened;
+use crate::opened::{kids_in, rule_in, spot, Opened};
 use fadurinko_second::limits::{MAX_DEPTH, MAX_TREE};
 use fadurinko_second::refusal::put_into_room;
 
@@ -16,14 +16,14 @@ struct Rule {
 
 fn arity(table: &Opened, symbol: u8) -> Option<u8> {
     let symbol = usize::from(symbol);
-    (symbol < table.head[0]).then(|| table.frames[2 * symbol + 1])
+    (symbol < table.head().symbols).then(|| table.frames[2 * symbol + 1])
 }
 
 fn rule(table: &Opened, state: u8, symbol: u8) -> Option<Rule> {
-    let entry = table.index[usize::from(state) * 64 + usize::from(symbol)];
-    (entry != 0).then_some(Rule {
-        at: (entry >> 8) as usize & 16383,
-        kids: (entry >> 54) as usize & 7,
+    let kept = table.row(usize::from(state))[usize::from(symbol)];
+    (kept != 0).then(|| Rule {
+        at: spot(table.rules(), rule_in(kept)),
+        kids: kids_in(kept),
     })
 }
 
@@ -91,10 +91,11 @@ pub fn find(
     room: &mut [u8],
 ) -> Result<(usize, usize), Refused> {
     check_shape(table, tree)?;
+    let head = table.head();
     out.clear();
-    out.extend_from_slice(stretch(table, table.head[3]));
-    append_word(table, table.head[2] as u8, tree, 0, out)?;
-    out.extend_from_slice(stretch(table, table.head[4]));
+    out.extend_from_slice(stretch(table, head.before));
+    append_word(table, head.start as u8, tree, 0, out)?;
+    out.extend_from_slice(stretch(table, head.after));
     put_into_room(out, room).map_err(|no| (no.number, no.place))?;
     let spaces = out.iter().filter(|&&letter| letter == b' ').count();
     Ok((out.len(), spaces + 1))

@@ -1,7 +1,8 @@
 //! The comparison by forms: both are written, and their bytes compared.
 
 use super::form::form;
-use crate::proved::{Opened, LONGEST};
+use crate::opened::Opened;
+use crate::proved::LONGEST;
 
 /// The number of no, the table that it is about, the place.
 pub type PairNo = (u8, usize, usize);
@@ -49,7 +50,8 @@ pub fn compare(first: &[u8], second: &[u8], desks: &mut (Desk, Desk)) -> Result<
         .map_err(|(number, place)| (number, 2, place))?
         .len();
     let (one, other) = (&desks.0.room[..one], &desks.1.room[..other]);
-    match first_difference(one, desks.0.table.head[0], other, desks.1.table.head[0]) {
+    let symbols = |desk: &Desk| desk.table.head().symbols;
+    match first_difference(one, symbols(&desks.0), other, symbols(&desks.1)) {
         Some(index) => Err((19, 0, index)),
         None => Ok(one == other),
     }

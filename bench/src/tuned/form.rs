@@ -3,32 +3,15 @@
 //! states that it leaves together have the same.
 
 use super::judge::{judge, No};
-use crate::proved::{Opened, ENTRIES, FRAMES};
+use crate::opened::{kids_in, letters_in, rule_in, spot, Head, Opened, Rules, CHILDREN, FRAMES};
 
-/// What the entries of two rules with the same words share: letters, number of children.
-const SHARED: u64 = 255 | 7 << 54;
-
-fn kids(entry: u64) -> usize {
-    (entry >> 54) as usize & 7
-}
-
-/// The letters of a rule's words, all together.
-fn letters(entry: u64) -> usize {
-    entry as usize & 255
-}
-
-/// Where a rule's first word stands.
-fn first_word(entry: u64) -> usize {
-    (entry >> 8) as usize & 16383
-}
-
-/// Where children's states stand in an entry: the first, then the others from the last on.
-const CHILDREN: [u32; 4] = [22, 36, 42, 48];
+/// What the kept numbers of two rules with the same words share: letters, number of children.
+const SHARED: u64 = 255 | 7 << 61;
 
 /// The children's states in turn.
-fn children(entry: u64) -> impl Iterator<Item = u8> {
-    let kids = kids(entry);
-    (0..kids).map(move |n| (entry >> CHILDREN[if n == 0 { 0 } else { (kids - n) & 3 }]) as u8 & 63)
+fn children(kept: u64) -> impl Iterator<Item = u8> {
+    let kids = kids_in(kept);
+    (0..kids).map(move |n| (kept >> CHILDREN[if n == 0 { 0 } else { (kids - n) & 3 }]) as u8 & 63)
 }
 
 fn sixteen(frames: &[u8; FRAMES], at: usize) -> u128 {
@@ -49,9 +32,9 @@ fn same_letters(frames: &[u8; FRAMES], p: usize, s: usize, n: usize) -> bool {
 
 /// Whether two rules have the same words.
 #[inline(always)]
-fn same_words(frames: &[u8; FRAMES], a: u64, b: u64) -> bool {
-    let (mut p, mut s) = (first_word(a), first_word(b));
-    for _ in 0..=kids(a) {
+fn same_words(frames: &[u8; FRAMES], rules: &Rules, a: u64, b: u64) -> bool {
+    let (mut p, mut s) = (spot(rules, rule_in(a)), spot(rules, rule_in(b)));
+    for _ in 0..=kids_in(a) {
         let n = frames[p & 16383];
         if n != frames[s & 16383] || !same_letters(frames, p, s, n.into()) {
             return false;
@@ -70,11 +53,10 @@ fn same_classes(rep: &[u8; 64], a: u64, b: u64) -> bool {
         .all(|&shift| rep[(a >> shift) as usize & 63] == rep[(b >> shift) as usize & 63])
 }
 
-/// The entries of a state's rules, by symbol.
+/// What is kept for a state and each symbol of the table.
 #[inline(always)]
-fn row(table: &Opened, state: usize) -> &[u64] {
-    let index: &[u64; ENTRIES] = &table.index;
-    &index[state % 64 * 64..][..table.head[0].min(64)]
+fn row(table: &Opened, symbols: usize, state: usize) -> &[u64] {
+    &table.row(state)[..symbols.min(64)]
 }
 
 /// A round: each state's class is the first state of its old class that leads it.
@@ -82,7 +64,10 @@ fn row(table: &Opened, state: usize) -> &[u64] {
 fn round(table: &Opened, rep: &[u8; 64], same: impl Fn(u64, u64) -> bool) -> [u8; 64] {
     let mut next = [0; 64];
     let mut leaders = [0u64; 64];
-    for state in 0..table.head[1].min(64) {
+    let Head {
+        symbols, states, ..
+    } = table.head();
+    for state in 0..states.min(64) {
         let leaders = &mut leaders[usize::from(rep[state] & 63)];
         let mut left = *leaders;
         next[state] = loop {
@@ -91,9 +76,9 @@ fn round(table: &Opened, rep: &[u8; 64], same: impl Fn(u64, u64) -> bool) -> [u8
                 break state as u8;
             }
             let leader = left.trailing_zeros() as usize;
-            if row(table, state)
+            if row(table, symbols, state)
                 .iter()
-                .zip(row(table, leader))
+                .zip(row(table, symbols, leader))
                 .all(|(&a, &b)| same(a, b))
             {
                 break leader as u8;
@@ -106,8 +91,9 @@ fn round(table: &Opened, rep: &[u8; 64], same: impl Fn(u64, u64) -> bool) -> [u8
 
 /// The classes of the states: each state's class is the first state that has the same words.
 fn classes(table: &Opened) -> [u8; 64] {
-    let frames: &[u8; FRAMES] = &table.frames;
-    let alike = |a, b| (a == 0) == (b == 0) && (a ^ b) & SHARED == 0 && same_words(frames, a, b);
+    let (frames, rules): (&[u8; FRAMES], &Rules) = (&table.frames, table.rules());
+    let alike =
+        |a, b| (a == 0) == (b == 0) && (a ^ b) & SHARED == 0 && same_words(frames, rules, a, b);
     let mut rep = round(table, &[0; 64], |a, b| a == 0 && b == 0 || alike(a, b));
     loop {
         let next = round(table, &rep, |a, b| same_classes(&rep, a, b));
@@ -144,11 +130,11 @@ fn numbered(table: &Opened, rep: &[u8; 64]) -> Numbering {
         count: 0,
         number: [UNMET; 64],
     };
-    numbering.meet(rep, table.head[2] as u8);
+    numbering.meet(rep, table.head().start as u8);
     let mut taken = 0;
     while taken < numbering.count {
-        for &entry in row(table, numbering.order[taken & 63].into()) {
-            children(entry).for_each(|state| numbering.meet(rep, state));
+        for rule in table.rules_of(numbering.order[taken & 63].into()) {
+            children(table.kept_of(rule)).for_each(|state| numbering.meet(rep, state));
         }
         taken += 1;
     }
@@ -156,20 +142,21 @@ fn numbered(table: &Opened, rep: &[u8; 64]) -> Numbering {
 }
 
 /// The bytes of a rule's frame.
-fn frame_length(entry: u64) -> usize {
-    4 + 2 * kids(entry) + letters(entry)
+fn frame_length(kept: u64) -> usize {
+    4 + 2 * kids_in(kept) + letters_in(kept)
+}
+
+/// Where the first rule's frame stands, or what is behind the rules.
+fn rows_from(table: &Opened) -> usize {
+    let after = table.head().after;
+    after + 1 + usize::from(table.frames[after])
 }
 
 fn length(table: &Opened, order: &[u8]) -> usize {
-    let line = |&entry: &u64| {
-        if entry == 0 {
-            0
-        } else {
-            2 * frame_length(entry) + 1
-        }
-    };
-    let lines = |&state: &u8| row(table, state.into()).iter().map(line).sum::<usize>();
-    2 * table.head[5] + table.head[0] + 1 + order.iter().map(lines).sum::<usize>() + 3
+    let line = |rule| 2 * frame_length(table.kept_of(rule)) + 1;
+    let lines = |&state: &u8| table.rules_of(state.into()).map(line).sum::<usize>();
+    let before = 2 * rows_from(table) + table.head().symbols + 1;
+    before + order.iter().map(lines).sum::<usize>() + 3
 }
 
 fn digit(value: u8) -> u8 {
@@ -213,17 +200,18 @@ fn put_line(frames: &[u8; FRAMES], from: usize, n: usize, room: &mut [u8], at: u
 #[inline(always)]
 fn put_rule(
     table: &Opened,
-    entry: u64,
+    rule: usize,
     numbers: &[u8; 64],
     number: u8,
     room: &mut [u8],
     at: usize,
 ) -> usize {
-    let from = first_word(entry) - 3;
-    let end = put_line(&table.frames, from, frame_length(entry), room, at);
+    let kept = table.kept_of(rule);
+    let mut word = spot(table.rules(), rule);
+    let from = word - 3;
+    let end = put_line(&table.frames, from, frame_length(kept), room, at);
     put_byte(room, at + 2, number);
-    let mut word = first_word(entry);
-    for _ in 0..kids(entry) {
+    for _ in 0..kids_in(kept) {
         word += usize::from(table.frames[word & 16383]) + 2;
         let state = table.frames[(word - 1) & 16383];
         put_byte(
@@ -236,19 +224,25 @@ fn put_rule(
 }
 
 fn write(table: &Opened, rep: &[u8; 64], numbering: &Numbering, room: &mut [u8]) {
-    let [symbols, _, _, before, after, rows, _] = table.head;
+    let Head {
+        symbols,
+        before,
+        after,
+        ..
+    } = table.head();
     let numbers: [u8; 64] =
         std::array::from_fn(|state| numbering.number[usize::from(rep[state] & 63)]);
     let mut end = (0..symbols).fold(0, |end, symbol| {
         put_line(&table.frames, 2 * symbol, 2, room, end)
     });
     let start = end;
-    end = put_line(&table.frames, before - 2, rows + 2 - before, room, start);
+    let length = rows_from(table) + 2 - before;
+    end = put_line(&table.frames, before - 2, length, room, start);
     put_byte(room, start + 2, numbering.count as u8);
     put_byte(room, start + 2 * (after - 1 - (before - 2)), 0);
     for (number, &state) in numbering.order[..numbering.count].iter().enumerate() {
-        for &entry in row(table, state.into()).iter().filter(|&&entry| entry != 0) {
-            end = put_rule(table, entry, &numbers, number as u8, room, end);
+        for rule in table.rules_of(state.into()) {
+            end = put_rule(table, rule, &numbers, number as u8, room, end);
         }
     }
     room[end..end + 3].copy_from_slice(b"04\n");

@@ -1,8 +1,8 @@
 //! The judgement by sweeps over the rows of the opened bytes until nothing rises. The first one
-//! goes up and leaves the rows' places; the others go down and up by turns.
+//! goes up; the others go down and up by turns.
 
 use super::open::open;
-use crate::proved::{Opened, FRAMES};
+use crate::opened::{spot, Head, Opened, FRAMES};
 
 /// A number of no and its place.
 pub type No = (u8, usize);
@@ -39,37 +39,38 @@ fn past(frames: &[u8; FRAMES], at: usize) -> usize {
     at + 1 + byte(frames, at)
 }
 
-/// The states that are reached, and the rows' places: the first sweep finds them.
-fn reached(table: &Opened) -> (u64, Vec<u16>) {
-    let frames: &[u8; FRAMES] = &table.frames;
-    let [_, _, start, _, _, mut at, rules] = table.head;
-    let mut marks = bit(start);
-    let mut places = Vec::with_capacity(rules);
-    for _ in 0..rules {
-        places.push(at as u16);
-        at = mark(frames, at, &mut marks).1;
-    }
-    if marks != bit(start) {
-        sweep_by_turns(&places, |at| mark(frames, at, &mut marks).0);
-    }
-    (marks, places)
+/// The rows' places.
+fn places(table: &Opened) -> Vec<u16> {
+    let rules = table.rules();
+    let place = |rule| spot(rules, rule) as u16 - 3;
+    (0..table.head().rules).map(place).collect()
 }
 
-/// Marks the children of the row at `at` if its state is marked: whether that marked a state more,
-/// and where what follows the row stands.
+/// The states that are reached.
+fn reached(frames: &[u8; FRAMES], start: usize, places: &Places) -> u64 {
+    let mut marks = bit(start);
+    for &at in places {
+        mark(frames, at.into(), &mut marks);
+    }
+    if marks != bit(start) {
+        sweep_by_turns(places, |at| mark(frames, at, &mut marks));
+    }
+    marks
+}
+
+/// Marks the children of the row at `at` if its state is marked: whether that marked a state more.
 #[inline(always)]
-fn mark(frames: &[u8; FRAMES], at: usize, marks: &mut u64) -> (bool, usize) {
-    let mut below = 0;
+fn mark(frames: &[u8; FRAMES], at: usize, marks: &mut u64) -> bool {
+    let old = *marks;
+    if old & bit(byte(frames, at + 1)) == 0 {
+        return false;
+    }
     let mut next = past(frames, at + 3);
     for _ in 0..kids_at(frames, at) {
-        below |= bit(byte(frames, next));
+        *marks |= bit(byte(frames, next));
         next = past(frames, next + 1);
     }
-    let old = *marks;
-    if old & bit(byte(frames, at + 1)) != 0 {
-        *marks |= below;
-    }
-    (*marks != old, next)
+    *marks != old
 }
 
 /// Goes over the rows down and up by turns, until a sweep changes nothing.
@@ -220,8 +221,14 @@ fn least_late(frames: &[u8; FRAMES], places: &Places, left: &[Ends; 64]) -> Opti
 
 /// The judgement of an opened table.
 pub fn judge_opened(table: &Opened) -> Result<(), No> {
-    let [_, states, start, _, after, ..] = table.head;
-    let (marks, places) = reached(table);
+    let Head {
+        states,
+        start,
+        after,
+        ..
+    } = table.head();
+    let places = places(table);
+    let marks = reached(&table.frames, start, &places);
     let left = ends::<true>(&table.frames, &places);
     let right = ends::<false>(&table.frames, &places);
     pass(13, states, |state| marks & bit(state) != 0)?;

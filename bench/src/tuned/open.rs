@@ -1,6 +1,8 @@
 //! Opening a table text, fast.
 
-use crate::proved::{Opened, ENTRIES, FRAMES};
+use crate::opened::{
+    kept, listed, one_later, Head, Opened, FIRSTS_FROM, FRAMES, GRID_FROM, RULES_FROM,
+};
 
 /// The value of each lowercase hexadecimal digit, 255 for other characters.
 static VALUES: [u8; 256] = values();
@@ -57,22 +59,21 @@ impl<'frame> Fields<'frame> {
     }
 
     #[inline(always)]
-    fn rule(&mut self, states: usize, arity: usize) -> Result<u64, u8> {
-        let at = self.at as u64;
+    fn rule(&mut self, number: usize, states: usize, arity: usize) -> Result<u64, u8> {
         let word = self.word()?;
         let mut letters = word.len() as u64;
-        let (mut first, mut rest) = (0, 0);
+        let (mut first, mut later) = (0, 0);
         for child in 0..arity {
             let state = self.below(states)? as u64;
             if child == 0 {
                 first = state
             } else {
-                rest = rest << 6 | state
+                later = one_later(later, state)
             }
             let word = self.word()?;
             letters += word.len() as u64;
         }
-        Ok(letters | at << 8 | first << 22 | rest << 36 | (arity as u64) << 54)
+        Ok(kept(letters, number, first, later, arity))
     }
 
     fn finish(&self) -> Result<(), u8> {
@@ -87,9 +88,9 @@ impl<'frame> Fields<'frame> {
 struct Reading {
     frames: [u8; FRAMES],
     used: usize,
-    /// The keys and entries of the rules so far.
-    rules: [(u64, u16); 512],
-    head: [usize; 7],
+    /// The rules so far: each as it is listed, and what is kept for it.
+    rules: [(u64, u64); 512],
+    head: Head,
     least: usize,
     phase: u8,
 }
@@ -103,31 +104,36 @@ impl Reading {
         };
         match (self.frames[self.used], self.phase) {
             (3, 1) => {
-                let [symbols, states, .., rules] = self.head;
-                let Some(slot) = self.rules.get_mut(rules) else {
+                let number = self.head.rules;
+                let Some(slot) = self.rules.get_mut(number) else {
                     return Err(4);
                 };
+                let states = self.head.states;
                 let state = fields.below(states)?;
-                let symbol = fields.below(symbols)?;
+                let symbol = fields.below(self.head.symbols)?;
                 let key = state * 64 + symbol;
                 if key < self.least {
                     return Err(3);
                 }
                 let arity = usize::from(self.frames[2 * symbol + 1]);
-                *slot = (fields.rule(states, arity)?, key as u16);
+                let at = fields.at;
+                *slot = (
+                    listed(at, symbol, state),
+                    fields.rule(number, states, arity)?,
+                );
                 fields.finish()?;
                 self.least = key + 1;
-                self.head[6] += 1;
+                self.head.rules += 1;
             }
             (1, 0) => {
-                if self.head[0] == 64 {
+                if self.head.symbols == 64 {
                     return Err(4);
                 }
                 fields.below(5)?;
                 fields.finish()?;
-                self.head[0] += 1;
+                self.head.symbols += 1;
             }
-            (2, 0) if self.head[0] > 0 => {
+            (2, 0) if self.head.symbols > 0 => {
                 let states = fields.below(65)?;
                 if states == 0 {
                     return Err(4);
@@ -138,7 +144,13 @@ impl Reading {
                 let after = fields.at;
                 fields.word()?;
                 fields.finish()?;
-                self.head = [self.head[0], states, start, before, after, end, 0];
+                self.head = Head {
+                    states,
+                    start,
+                    before,
+                    after,
+                    ..self.head
+                };
                 self.phase = 1;
             }
             (4, 1) => {
@@ -149,6 +161,25 @@ impl Reading {
         }
         self.used = end;
         Ok(())
+    }
+
+    /// Writes the table that was read; what it has no use for is left as it was.
+    fn hand_over(&self, into: &mut Opened) {
+        let Opened { frames, numbers } = into;
+        frames[..self.used].copy_from_slice(&self.frames[..self.used]);
+        numbers[..FIRSTS_FROM].copy_from_slice(&self.head.numbers());
+        numbers[GRID_FROM..GRID_FROM + 64 * self.head.states].fill(0);
+        let mut states = 0;
+        for (number, &(listed, kept)) in self.rules[..self.head.rules].iter().enumerate() {
+            let key = (listed >> 17) as usize;
+            while states <= key / 64 {
+                numbers[FIRSTS_FROM + states] = number as u64;
+                states += 1;
+            }
+            numbers[RULES_FROM + number] = listed;
+            numbers[GRID_FROM + key] = kept;
+        }
+        numbers[FIRSTS_FROM + states..=FIRSTS_FROM + self.head.states].fill(self.head.rules as u64);
     }
 }
 
@@ -161,7 +192,7 @@ pub fn open(text: &[u8], into: &mut Opened) -> Result<(), (u8, usize)> {
         frames: [0; FRAMES],
         used: 0,
         rules: [(0, 0); 512],
-        head: [0; 7],
+        head: Head::default(),
         least: 0,
         phase: 0,
     };
@@ -177,11 +208,6 @@ pub fn open(text: &[u8], into: &mut Opened) -> Result<(), (u8, usize)> {
     if reading.phase != 2 {
         return Err((3, text.len()));
     }
-    *into.frames = reading.frames;
-    *into.index = [0; ENTRIES];
-    for &(entry, key) in &reading.rules[..reading.head[6]] {
-        into.index[usize::from(key)] = entry;
-    }
-    into.head = reading.head;
+    reading.hand_over(into);
     Ok(())
 }

@@ -1,9 +1,8 @@
 //! The calls as the archive exports them, with everything lent by the caller: nothing allocates.
 //!
-//! Each answers with a number, 0 for a yes. On a no the place is in `count` or `place`, the other
-//! numbers are 0, and no other byte changes but in the plan, which is scratch. The crate's own
-//! functions say the same more handily; these are for a caller that has no heap or keeps many tables
-//! in memory of its own.
+//! Each returns a number, 0 for a yes, and writes every entry of the [`Answer`] that it is lent. On a
+//! no, no other byte changes but in the plan, which is scratch. The crate's own functions say the same more
+//! handily; these are for a caller that has no heap or keeps many tables in memory of its own.
 //!
 //! All of them are safe to call with any bytes: the proofs ask nothing of what is lent. What `find`
 //! and `judge_opened` answer means something only for arrays that `open` wrote. Whatever stands in
@@ -15,8 +14,8 @@
 //!
 //! ```compile_fail,E0502
 //! let mut bytes = *b"0100\n0201000000\n03000000\n04\n";
-//! let mut count = 0;
-//! fadurinko::lent::form(&bytes, &mut bytes, &mut count);
+//! let mut answer = fadurinko::lent::Answer::default();
+//! fadurinko::lent::form(&bytes, &mut bytes, &mut answer);
 //! ```
 //!
 //! With a room of its own it does:
@@ -24,15 +23,49 @@
 //! ```
 //! let bytes = *b"0100\n0201000000\n03000000\n04\n";
 //! let mut room = [0; 32];
-//! let mut count = 0;
-//! assert_eq!(fadurinko::lent::form(&bytes, &mut room, &mut count), 0);
-//! assert_eq!(room[..count], bytes);
+//! let mut answer = fadurinko::lent::Answer::default();
+//! assert_eq!(fadurinko::lent::form(&bytes, &mut room, &mut answer), 0);
+//! assert_eq!(room[..answer.length], bytes);
 //! ```
 
-use crate::limit::{ENTRIES, FRAMES, HEAD, PLAN};
+use crate::limit::{ANSWER, FRAMES, NUMBERS, PLAN};
+
+/// What a call hands out besides its number: one small array, whose entries have names. Those that no
+/// call has a use for are 0 and have none, so that a later release adds to an answer and breaks no
+/// caller.
+#[repr(C)]
+#[derive(Clone, Copy, Debug, Default, PartialEq, Eq, Hash)]
+pub struct Answer {
+    /// The place of a no; 0 for a yes.
+    pub place: usize,
+    /// Letters of the word, bytes of the form; 0 for a no.
+    pub length: usize,
+    /// The word's terms; 0 for a no.
+    pub terms: usize,
+    /// Of a comparison: 1 for same; 0 for different and for a no.
+    pub same: usize,
+    /// The table that a comparison's no is about: 1 or 2, and 0 for number 19.
+    pub table: usize,
+    kept_for_later: [usize; ANSWER - 5],
+}
+
+/// An answer of these entries, in the order of the C header.
+impl From<[usize; ANSWER]> for Answer {
+    fn from(entries: [usize; ANSWER]) -> Answer {
+        let [place, length, terms, same, table, kept_for_later @ ..] = entries;
+        Answer {
+            place,
+            length,
+            terms,
+            same,
+            table,
+            kept_for_later,
+        }
+    }
+}
 
 mod exported {
-    use super::{ENTRIES, FRAMES, HEAD, PLAN};
+    use super::{Answer, FRAMES, NUMBERS, PLAN};
 
     // The declarations of include/fadurinko.h.
     extern "C" {
@@ -43,59 +76,53 @@ mod exported {
             tree_length: usize,
             room: *mut u8,
             room_length: usize,
-            count: *mut usize,
-            terms: *mut usize,
+            answer: *mut Answer,
         ) -> u8;
-        pub fn fadurinko_judge(text: *const u8, text_length: usize, place: *mut usize) -> u8;
+        pub fn fadurinko_judge(text: *const u8, text_length: usize, answer: *mut Answer) -> u8;
         pub fn fadurinko_form(
             text: *const u8,
             text_length: usize,
             room: *mut u8,
             room_length: usize,
-            count: *mut usize,
+            answer: *mut Answer,
         ) -> u8;
         pub fn fadurinko_compare(
             first: *const u8,
             first_length: usize,
             second: *const u8,
             second_length: usize,
-            same: *mut usize,
-            table: *mut usize,
-            place: *mut usize,
+            answer: *mut Answer,
         ) -> u8;
         pub fn fadurinko_open(
             text: *const u8,
             text_length: usize,
             frames: *mut [u8; FRAMES],
-            index: *mut [u64; ENTRIES],
-            head: *mut [usize; HEAD],
-            place: *mut usize,
+            numbers: *mut [u64; NUMBERS],
+            answer: *mut Answer,
         ) -> u8;
         pub fn fadurinko_find(
             frames: *const [u8; FRAMES],
-            index: *const [u64; ENTRIES],
-            head: *const [usize; HEAD],
+            numbers: *const [u64; NUMBERS],
             tree: *const u8,
             tree_length: usize,
             plan: *mut [u32; PLAN],
             room: *mut u8,
             room_length: usize,
-            count: *mut usize,
-            terms: *mut usize,
+            answer: *mut Answer,
         ) -> u8;
         pub fn fadurinko_judge_opened(
             frames: *const [u8; FRAMES],
-            index: *const [u64; ENTRIES],
-            head: *const [usize; HEAD],
-            place: *mut usize,
+            numbers: *const [u64; NUMBERS],
+            answer: *mut Answer,
         ) -> u8;
     }
 }
 
-/// The word of a tree by a table text: `count` letters in the room and `terms` terms.
-pub fn word(text: &[u8], tree: &[u8], room: &mut [u8], count: &mut usize, terms: &mut usize) -> u8 {
+/// The word of a tree by a table text: `length` letters in the room and `terms` terms.
+pub fn word(text: &[u8], tree: &[u8], room: &mut [u8], answer: &mut Answer) -> u8 {
     // SAFETY: each pointer comes from a reference, with its slice's length, so it is not null, is
-    // valid for that many bytes, and what is written to overlaps with nothing. The call keeps none.
+    // valid for that many bytes, and what is written to overlaps with nothing. An answer is laid out
+    // as the array that the call writes. The call keeps no pointer.
     unsafe {
         exported::fadurinko_word(
             text.as_ptr(),
@@ -104,20 +131,19 @@ pub fn word(text: &[u8], tree: &[u8], room: &mut [u8], count: &mut usize, terms:
             tree.len(),
             room.as_mut_ptr(),
             room.len(),
-            count,
-            terms,
+            answer,
         )
     }
 }
 
 /// Whether a table text is earliest.
-pub fn judge(text: &[u8], place: &mut usize) -> u8 {
+pub fn judge(text: &[u8], answer: &mut Answer) -> u8 {
     // SAFETY: as in `word`.
-    unsafe { exported::fadurinko_judge(text.as_ptr(), text.len(), place) }
+    unsafe { exported::fadurinko_judge(text.as_ptr(), text.len(), answer) }
 }
 
-/// The form of a table text: `count` bytes in the room.
-pub fn form(text: &[u8], room: &mut [u8], count: &mut usize) -> u8 {
+/// The form of a table text: `length` bytes in the room.
+pub fn form(text: &[u8], room: &mut [u8], answer: &mut Answer) -> u8 {
     // SAFETY: as in `word`.
     unsafe {
         exported::fadurinko_form(
@@ -125,20 +151,14 @@ pub fn form(text: &[u8], room: &mut [u8], count: &mut usize) -> u8 {
             text.len(),
             room.as_mut_ptr(),
             room.len(),
-            count,
+            answer,
         )
     }
 }
 
 /// Whether two table texts give every tree the same word: `same` is 1 or 0. On a no `table` is 1
 /// or 2, or 0 for number 19.
-pub fn compare(
-    first: &[u8],
-    second: &[u8],
-    same: &mut usize,
-    table: &mut usize,
-    place: &mut usize,
-) -> u8 {
+pub fn compare(first: &[u8], second: &[u8], answer: &mut Answer) -> u8 {
     // SAFETY: as in `word`.
     unsafe {
         exported::fadurinko_compare(
@@ -146,62 +166,49 @@ pub fn compare(
             first.len(),
             second.as_ptr(),
             second.len(),
-            same,
-            table,
-            place,
+            answer,
         )
     }
 }
 
-/// Opens a table text into three arrays. A refused text leaves them as they were.
+/// Opens a table text into two arrays. A refused text leaves them as they were.
 pub fn open(
     text: &[u8],
     frames: &mut [u8; FRAMES],
-    index: &mut [u64; ENTRIES],
-    head: &mut [usize; HEAD],
-    place: &mut usize,
+    numbers: &mut [u64; NUMBERS],
+    answer: &mut Answer,
 ) -> u8 {
     // SAFETY: as in `word`; the arrays have the lengths that the call expects.
-    unsafe { exported::fadurinko_open(text.as_ptr(), text.len(), frames, index, head, place) }
+    unsafe { exported::fadurinko_open(text.as_ptr(), text.len(), frames, numbers, answer) }
 }
 
 /// The word of a tree by an opened table: as [`word()`]. The plan is scratch: what stands in it makes
 /// no difference, and it is written to.
-#[allow(clippy::too_many_arguments)]
 pub fn find(
     frames: &[u8; FRAMES],
-    index: &[u64; ENTRIES],
-    head: &[usize; HEAD],
+    numbers: &[u64; NUMBERS],
     tree: &[u8],
     plan: &mut [u32; PLAN],
     room: &mut [u8],
-    count: &mut usize,
-    terms: &mut usize,
+    answer: &mut Answer,
 ) -> u8 {
     // SAFETY: as in `word`; the arrays have the lengths that the call expects, and may hold anything.
     unsafe {
         exported::fadurinko_find(
             frames,
-            index,
-            head,
+            numbers,
             tree.as_ptr(),
             tree.len(),
             plan,
             room.as_mut_ptr(),
             room.len(),
-            count,
-            terms,
+            answer,
         )
     }
 }
 
 /// Whether an opened table is earliest.
-pub fn judge_opened(
-    frames: &[u8; FRAMES],
-    index: &[u64; ENTRIES],
-    head: &[usize; HEAD],
-    place: &mut usize,
-) -> u8 {
+pub fn judge_opened(frames: &[u8; FRAMES], numbers: &[u64; NUMBERS], answer: &mut Answer) -> u8 {
     // SAFETY: as in `find`.
-    unsafe { exported::fadurinko_judge_opened(frames, index, head, place) }
+    unsafe { exported::fadurinko_judge_opened(frames, numbers, answer) }
 }

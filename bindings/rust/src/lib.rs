@@ -46,6 +46,8 @@ mod refusal;
 pub use open_table::{OpenTable, Plan};
 pub use refusal::{CompareRefusal, Refusal};
 
+use lent::Answer;
+
 /// A word that was put into a room.
 #[derive(Clone, Copy, Debug, PartialEq, Eq, Hash)]
 pub struct Word {
@@ -64,11 +66,23 @@ pub enum Comparison {
     Different,
 }
 
-/// What a call answered: 0 is a yes.
-fn answered<T>(number: u8, place: usize, yes: T) -> Result<T, Refusal> {
-    match number {
-        0 => Ok(yes),
-        _ => Err(Refusal { number, place }),
+/// What a call answered: all that it handed out for a yes, which is number 0.
+fn answered(call: impl FnOnce(&mut Answer) -> u8) -> Result<Answer, Refusal> {
+    let mut answer = Answer::default();
+    match call(&mut answer) {
+        0 => Ok(answer),
+        number => Err(Refusal {
+            number,
+            place: answer.place,
+        }),
+    }
+}
+
+/// The word that a call has put into a room.
+fn word_found(answer: Answer) -> Word {
+    Word {
+        length: answer.length,
+        terms: answer.terms,
     }
 }
 
@@ -108,16 +122,7 @@ pub fn word(text: &[u8], tree: &[u8]) -> Result<Vec<u8>, Refusal> {
 /// assert_eq!((word.length, word.terms, &room), (1, 1, b"a."));
 /// ```
 pub fn word_into(text: &[u8], tree: &[u8], room: &mut [u8]) -> Result<Word, Refusal> {
-    let (mut count, mut terms) = (0, 0);
-    let number = lent::word(text, tree, room, &mut count, &mut terms);
-    answered(
-        number,
-        count,
-        Word {
-            length: count,
-            terms,
-        },
-    )
+    answered(|answer| lent::word(text, tree, room, answer)).map(word_found)
 }
 
 /// Nothing if a table text is earliest, or why not (1 to 5, 13 to 18).
@@ -126,9 +131,7 @@ pub fn word_into(text: &[u8], tree: &[u8], room: &mut [u8]) -> Result<Word, Refu
 /// assert_eq!(fadurinko::judge(b"0100\n0201000000\n03000000\n04\n"), Ok(()));
 /// ```
 pub fn judge(text: &[u8]) -> Result<(), Refusal> {
-    let mut place = 0;
-    let number = lent::judge(text, &mut place);
-    answered(number, place, ())
+    answered(|answer| lent::judge(text, answer)).map(|_| ())
 }
 
 /// The form of a table text, or why it has none (1 to 5, 13 to 18).
@@ -156,9 +159,7 @@ pub fn form(text: &[u8]) -> Result<Vec<u8>, Refusal> {
 /// assert_eq!(&room, b"0100\n0201000000\n03000000\n04\n..");
 /// ```
 pub fn form_into(text: &[u8], room: &mut [u8]) -> Result<usize, Refusal> {
-    let mut count = 0;
-    let number = lent::form(text, room, &mut count);
-    answered(number, count, count)
+    answered(|answer| lent::form(text, room, answer)).map(|answer| answer.length)
 }
 
 /// Whether two table texts give every tree the same word, or why that cannot be said (1 to 5 and 13
@@ -172,14 +173,17 @@ pub fn form_into(text: &[u8], room: &mut [u8]) -> Result<usize, Refusal> {
 /// assert_eq!(fadurinko::compare(one, other), Ok(Comparison::Different));
 /// ```
 pub fn compare(first: &[u8], second: &[u8]) -> Result<Comparison, CompareRefusal> {
-    let (mut same, mut table, mut place) = (0, 0, 0);
-    let number = lent::compare(first, second, &mut same, &mut table, &mut place);
-    match (number, same) {
+    let mut answer = Answer::default();
+    let number = lent::compare(first, second, &mut answer);
+    match (number, answer.same) {
         (0, 0) => Ok(Comparison::Different),
         (0, _) => Ok(Comparison::Same),
         _ => Err(CompareRefusal {
-            table: table as u8,
-            refusal: Refusal { number, place },
+            table: answer.table as u8,
+            refusal: Refusal {
+                number,
+                place: answer.place,
+            },
         }),
     }
 }

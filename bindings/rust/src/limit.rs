@@ -1,5 +1,5 @@
-//! The limits of tables and trees, the sizes of an opened table's arrays, and how much stack the linked
-//! calls take.
+//! The limits of tables and trees, the sizes of what is lent besides, and how much stack the linked calls
+//! take.
 
 /// Bytes of a table text, at least 1. A form is never longer than its table's text.
 pub const TEXT: usize = 32_768;
@@ -20,14 +20,14 @@ pub const DEPTH: usize = 64;
 /// A room of this length takes the word of any tree: a tree of n symbols is written with 2 n + 1
 /// words of the table.
 pub const LONGEST: usize = (2 * TREE + 1) * LETTERS;
-/// Bytes of an opened table's frames.
+/// Bytes of an opened table.
 pub const FRAMES: usize = 16_448;
-/// Entries of an opened table's index.
-pub const ENTRIES: usize = 4_096;
-/// Numbers of an opened table's head.
-pub const HEAD: usize = 7;
-/// Entries of the plan that finding a word is lent.
+/// 64-bit numbers of an opened table.
+pub const NUMBERS: usize = 4_688;
+/// 32-bit numbers of the plan that finding a word is lent.
 pub const PLAN: usize = 32_768;
+/// Entries of an answer, which [`crate::lent::Answer`] names.
+pub const ANSWER: usize = 8;
 
 /// Bytes of stack that a word by a text takes at most. This and the next six are the bounds that the C
 /// header gives for the linked calls, as `examples/c/stack.c` measures them.

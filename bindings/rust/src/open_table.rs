@@ -3,8 +3,8 @@
 use std::fmt;
 
 use crate::lent;
-use crate::limit::{ENTRIES, FRAMES, HEAD, PLAN};
-use crate::{answered, found, Refusal, Word};
+use crate::limit::{FRAMES, NUMBERS, PLAN};
+use crate::{answered, found, word_found, Refusal, Word};
 
 /// Scratch for finding words: 128 kilobytes on the heap. What stands in it makes no difference, so one
 /// plan serves any number of tables and trees, one after the other.
@@ -34,24 +34,14 @@ impl fmt::Debug for Plan {
 #[derive(Clone)]
 struct Arrays {
     frames: Box<[u8; FRAMES]>,
-    index: Box<[u64; ENTRIES]>,
-    head: [usize; HEAD],
+    numbers: Box<[u64; NUMBERS]>,
 }
 
 impl Arrays {
     fn find(&self, tree: &[u8], plan: &mut Plan, room: &mut [u8]) -> Result<Word, Refusal> {
-        let (mut length, mut terms) = (0, 0);
-        let number = lent::find(
-            &self.frames,
-            &self.index,
-            &self.head,
-            tree,
-            &mut plan.0,
-            room,
-            &mut length,
-            &mut terms,
-        );
-        answered(number, length, Word { length, terms })
+        let Arrays { frames, numbers } = self;
+        answered(|answer| lent::find(frames, numbers, tree, &mut plan.0, room, answer))
+            .map(word_found)
     }
 }
 
@@ -100,7 +90,7 @@ pub struct OpenTable {
 
 impl fmt::Debug for OpenTable {
     fn fmt(&self, out: &mut fmt::Formatter<'_>) -> fmt::Result {
-        let [symbols, states, .., rules] = self.arrays.head;
+        let [symbols, states, _, rules, ..] = *self.arrays.numbers;
         out.debug_struct("OpenTable")
             .field("symbols", &symbols)
             .field("states", &states)
@@ -123,8 +113,7 @@ impl OpenTable {
         let mut table = OpenTable {
             arrays: Arrays {
                 frames: boxed(),
-                index: boxed(),
-                head: [0; HEAD],
+                numbers: boxed(),
             },
             plan: Plan::new(),
         };
@@ -145,14 +134,8 @@ impl OpenTable {
     /// # }
     /// ```
     pub fn reopen(&mut self, text: &[u8]) -> Result<(), Refusal> {
-        let mut place = 0;
-        let Arrays {
-            frames,
-            index,
-            head,
-        } = &mut self.arrays;
-        let number = lent::open(text, frames, index, head, &mut place);
-        answered(number, place, ())
+        let Arrays { frames, numbers } = &mut self.arrays;
+        answered(|answer| lent::open(text, frames, numbers, answer)).map(|_| ())
     }
 
     /// Puts the word of a tree into the first bytes of a lent room, or says why not (6 to 12). The
@@ -216,13 +199,7 @@ impl OpenTable {
     /// # }
     /// ```
     pub fn judge(&self) -> Result<(), Refusal> {
-        let mut place = 0;
-        let Arrays {
-            frames,
-            index,
-            head,
-        } = &self.arrays;
-        let number = lent::judge_opened(frames, index, head, &mut place);
-        answered(number, place, ())
+        let Arrays { frames, numbers } = &self.arrays;
+        answered(|answer| lent::judge_opened(frames, numbers, answer)).map(|_| ())
     }
 }

@@ -1,5 +1,8 @@
-//! The C header and this crate have the same limits and numbers under the same names.
+//! The C header and this crate have the same limits, numbers and entries of an answer under the same names.
 
+use std::mem::{offset_of, size_of};
+
+use fadurinko::lent::Answer;
 use fadurinko::{limit, number};
 
 fn header() -> String {
@@ -30,9 +33,9 @@ fn limits() {
         ("TREE", limit::TREE),
         ("DEPTH", limit::DEPTH),
         ("FRAMES", limit::FRAMES),
-        ("ENTRIES", limit::ENTRIES),
-        ("HEAD", limit::HEAD),
+        ("NUMBERS", limit::NUMBERS),
         ("PLAN", limit::PLAN),
+        ("ANSWER", limit::ANSWER),
         ("STACK_WORD", limit::STACK_WORD),
         ("STACK_JUDGE", limit::STACK_JUDGE),
         ("STACK_FORM", limit::STACK_FORM),
@@ -79,4 +82,21 @@ fn numbers() {
         let start = format!("FADURINKO_NO_{name} = ");
         assert_eq!(value_behind(&header, &start), usize::from(value), "{name}");
     }
+}
+
+#[test]
+fn entries_of_an_answer() {
+    let header = header();
+    let entries = [
+        ("PLACE", offset_of!(Answer, place)),
+        ("LENGTH", offset_of!(Answer, length)),
+        ("TERMS", offset_of!(Answer, terms)),
+        ("SAME", offset_of!(Answer, same)),
+        ("TABLE", offset_of!(Answer, table)),
+    ];
+    for (name, offset) in entries {
+        let entry = value_behind(&header, &format!("FADURINKO_{name} = "));
+        assert_eq!(entry * size_of::<usize>(), offset, "{name}");
+    }
+    assert_eq!(size_of::<Answer>(), limit::ANSWER * size_of::<usize>());
 }

@@ -2,8 +2,9 @@
 
 mod common;
 
-use common::{full_tree, m1_earliest, own_form, text, wordy, T, T_FORM};
-use fadurinko::{form_into, lent, limit, word_into, OpenTable, Plan, Refusal, Word};
+use common::{full_tree, m1_earliest, m2, own_form, text, wordy, T, T_FORM};
+use fadurinko::lent::{self, Answer};
+use fadurinko::{form_into, limit, word_into, OpenTable, Plan, Refusal, Word};
 
 /// Long enough for any copy that is done in pieces of 32.
 const GUARD: usize = 96;
@@ -157,8 +158,7 @@ fn the_longest_form() {
 #[test]
 fn a_refused_open_leaves_the_arrays() {
     let mut frames = [0x5a; limit::FRAMES];
-    let mut index = [0x1234_5678_9abc_def0; limit::ENTRIES];
-    let mut head = [77; limit::HEAD];
+    let mut numbers = [0x1234_5678_9abc_def0; limit::NUMBERS];
     let late_fault = [T, b"05\n"].concat();
     for text in [
         &b""[..],
@@ -167,40 +167,82 @@ fn a_refused_open_leaves_the_arrays() {
         &late_fault,
         &[b'0'; 32_769],
     ] {
-        let mut place = usize::MAX;
-        assert_ne!(
-            lent::open(text, &mut frames, &mut index, &mut head, &mut place),
-            0
-        );
-        assert_ne!(place, usize::MAX);
-        assert!(frames == [0x5a; limit::FRAMES] && head == [77; limit::HEAD]);
-        assert!(index == [0x1234_5678_9abc_def0; limit::ENTRIES]);
+        let mut answer = strange();
+        assert_ne!(lent::open(text, &mut frames, &mut numbers, &mut answer), 0);
+        assert!(frames == [0x5a; limit::FRAMES]);
+        assert!(numbers == [0x1234_5678_9abc_def0; limit::NUMBERS]);
+        assert_eq!(answer, entries(answer.place, 0, 0, 0, 0));
     }
 }
 
-/// What was lent for the answer is always written: the place, and 0 in the others.
+/// What an earlier call may have left in an answer: no entry is 0.
+fn strange() -> Answer {
+    Answer::from([usize::MAX; limit::ANSWER])
+}
+
+/// The entries of an answer, of which those behind the table are 0.
+fn entries(place: usize, length: usize, terms: usize, same: usize, table: usize) -> Answer {
+    Answer::from([place, length, terms, same, table, 0, 0, 0])
+}
+
+/// Every call writes every entry, on a yes and on a no.
 #[test]
-fn numbers_of_a_no() {
-    let (mut count, mut terms) = (usize::MAX, usize::MAX);
-    assert_eq!(lent::word(T, &[0, 2], &mut [], &mut count, &mut terms), 8);
-    assert_eq!((count, terms), (2, 0));
-    let (mut same, mut table, mut place) = (usize::MAX, usize::MAX, usize::MAX);
-    assert_eq!(
-        lent::compare(T, b"05\n", &mut same, &mut table, &mut place),
-        3
-    );
-    assert_eq!((same, table, place), (0, 2, 0));
-    assert_eq!(
-        lent::compare(T, T_FORM, &mut same, &mut table, &mut place),
-        0
-    );
-    assert_eq!((same, table, place), (1, 0, 0));
-    assert_eq!(lent::judge(T, &mut place), 0);
-    assert_eq!(place, 0);
+fn every_entry_is_written() {
+    let mut frames = [0; limit::FRAMES];
+    let mut numbers = [0; limit::NUMBERS];
+    let mut plan = [0; limit::PLAN];
+    let told = |number: u8, due: Answer, call: &mut dyn FnMut(&mut Answer) -> u8| {
+        let mut answer = strange();
+        assert_eq!((call(&mut answer), answer), (number, due));
+    };
+    let room = &mut [0; 100][..];
+    let form = T_FORM.len();
+    told(0, entries(0, 3, 1, 0, 0), &mut |answer| {
+        lent::word(T, &[0, 2, 2], room, answer)
+    });
+    told(8, entries(2, 0, 0, 0, 0), &mut |answer| {
+        lent::word(T, &[0, 2], room, answer)
+    });
+    told(0, entries(0, 0, 0, 0, 0), &mut |answer| {
+        lent::judge(T, answer)
+    });
+    told(18, entries(0, 0, 0, 0, 0), &mut |answer| {
+        lent::judge(&m2(true), answer)
+    });
+    told(0, entries(0, form, 0, 0, 0), &mut |answer| {
+        lent::form(T, room, answer)
+    });
+    told(12, entries(form, 0, 0, 0, 0), &mut |answer| {
+        lent::form(T, &mut [], answer)
+    });
+    told(0, entries(0, 0, 0, 1, 0), &mut |answer| {
+        lent::compare(T, T_FORM, answer)
+    });
+    told(0, entries(0, 0, 0, 0, 0), &mut |answer| {
+        lent::compare(&m2(false), &m1_earliest(), answer)
+    });
+    told(3, entries(5, 0, 0, 0, 2), &mut |answer| {
+        lent::compare(T, b"0100\n05\n", answer)
+    });
+    told(2, entries(5, 0, 0, 0, 0), &mut |answer| {
+        lent::open(&T[..9], &mut frames, &mut numbers, answer)
+    });
+    told(0, entries(0, 0, 0, 0, 0), &mut |answer| {
+        lent::open(T, &mut frames, &mut numbers, answer)
+    });
+    told(0, entries(0, 3, 1, 0, 0), &mut |answer| {
+        lent::find(&frames, &numbers, &[0, 2, 2], &mut plan, room, answer)
+    });
+    told(12, entries(3, 0, 0, 0, 0), &mut |answer| {
+        lent::find(&frames, &numbers, &[0, 2, 2], &mut plan, &mut [], answer)
+    });
+    told(0, entries(0, 0, 0, 0, 0), &mut |answer| {
+        lent::judge_opened(&frames, &numbers, answer)
+    });
 }
 
 /// Arrays that no call of `open` wrote: the answer means nothing, but no byte outside the room may
-/// change, and every call comes to an end soon, whatever the head says.
+/// change, and every call comes to an end soon, whatever the numbers say.
 #[test]
 fn arrays_that_were_never_opened() {
     let mut state = 0x9e37_79b9_7f4a_7c15_u64;
@@ -210,45 +252,27 @@ fn arrays_that_were_never_opened() {
         state ^= state << 17;
         state
     };
-    let mut opened = (
-        vec![0; limit::FRAMES],
-        vec![0; limit::ENTRIES],
-        [0; limit::HEAD],
-    );
-    let mut plan: Box<[u32; limit::PLAN]> = vec![u32::MAX; limit::PLAN].try_into().unwrap();
+    let mut frames = [0; limit::FRAMES];
+    let mut numbers = [0; limit::NUMBERS];
+    let mut plan = [u32::MAX; limit::PLAN];
     for round in 0..400 {
-        let small = round % 2 == 0;
-        opened.0.fill_with(|| {
-            if small {
-                next() as u8 % 5
-            } else {
-                next() as u8
-            }
-        });
-        opened
-            .1
-            .fill_with(|| if small { next() % 1_000_000 } else { next() });
-        opened.2.fill_with(|| {
-            if small {
-                next() as usize % 200
-            } else {
-                next() as usize
-            }
-        });
-        let frames: &[u8; limit::FRAMES] = opened.0[..].try_into().unwrap();
-        let index: &[u64; limit::ENTRIES] = opened.1[..].try_into().unwrap();
+        let (bytes, counts, rest) = match round % 2 {
+            0 => (5, 200, 1_000_000),
+            _ => (256, u64::MAX, u64::MAX),
+        };
+        frames.fill_with(|| (next() % bytes) as u8);
+        numbers.fill_with(|| next() % rest);
+        numbers[..80].fill_with(|| next() % counts);
         let tree: Vec<u8> = (0..1 + next() % 300).map(|_| next() as u8 % 4).collect();
         let room = next() as usize % 5_000;
         let mut bytes = pattern(room + 2 * GUARD);
-        let (mut count, mut terms) = (0, 0);
         let lent_room = &mut bytes[GUARD..GUARD + room];
-        lent::find(
-            frames, index, &opened.2, &tree, &mut plan, lent_room, &mut count, &mut terms,
-        );
+        let mut answer = strange();
+        lent::find(&frames, &numbers, &tree, &mut plan, lent_room, &mut answer);
         let before = pattern(room + 2 * GUARD);
         assert!(
             bytes[..GUARD] == before[..GUARD] && bytes[GUARD + room..] == before[GUARD + room..]
         );
-        lent::judge_opened(frames, index, &opened.2, &mut count);
+        lent::judge_opened(&frames, &numbers, &mut answer);
     }
 }

@@ -1,0 +1,83 @@
+//! What the calls answer, and what the second program makes due.
+
+use fadurinko::lent::Answer;
+use fadurinko::limit::ANSWER;
+use fadurinko_second::refusal::Refusal;
+
+/// A call's number and what it handed out.
+pub type Told = (u8, Answer);
+
+/// What a call tells into an answer whose entries are all another number before.
+pub fn told(call: impl FnOnce(&mut Answer) -> u8) -> Told {
+    let mut answer = Answer::from([usize::MAX; ANSWER]);
+    let number = call(&mut answer);
+    (number, answer)
+}
+
+/// A yes that holds nothing, or a no.
+pub fn due<A>(answer: &Result<A, Refusal>) -> Told {
+    match answer {
+        Ok(_) => (0, Answer::default()),
+        Err(refusal) => refused(*refusal),
+    }
+}
+
+pub fn refused(refusal: Refusal) -> Told {
+    refused_about(0, refusal)
+}
+
+pub fn refused_about(table: u8, refusal: Refusal) -> Told {
+    let Refusal { number, place } = refusal;
+    (
+        number,
+        Answer::from([place, 0, 0, 0, table.into(), 0, 0, 0]),
+    )
+}
+
+pub fn put(length: usize, terms: usize) -> Told {
+    (0, Answer::from([0, length, terms, 0, 0, 0, 0, 0]))
+}
+
+pub fn compared(is_same: bool) -> Told {
+    (0, Answer::from([0, 0, 0, is_same.into(), 0, 0, 0, 0]))
+}
+
+/// Whether an answer about one table has nothing in an entry that it has no use for: a yes has no place,
+/// a no has nothing else.
+pub fn is_whole(told: Told) -> bool {
+    let (
+        number,
+        Answer {
+            place,
+            length,
+            terms,
+            ..
+        },
+    ) = told;
+    match number {
+        0 => told == put(length, terms),
+        _ => told == refused(Refusal { number, place }),
+    }
+}
+
+#[cfg(test)]
+mod tests {
+    use super::*;
+
+    #[test]
+    fn every_entry_that_is_left_is_seen() {
+        assert!(is_whole(put(3, 1)) && is_whole(refused(Refusal::new(9, 4))));
+        for number in [0, 9] {
+            for left in 0..ANSWER {
+                let wrong = match (number, left) {
+                    (0, 1 | 2) | (9, 0) => continue,
+                    _ => told(|answer| {
+                        *answer = Answer::from(std::array::from_fn(|i| usize::from(i == left)));
+                        number
+                    }),
+                };
+                assert!(!is_whole(wrong), "number {number}, entry {left}");
+            }
+        }
+    }
+}
