@@ -19,7 +19,7 @@ use Rattle.layout.specs.declared.Place.{Place}
 use Rattle.layout.specs.declared.Lookup.the-variants.{Found, Missing}
 use Rattle.layout.proofs.Stretches.{first-word, first-behind, child-state, child-word, child-behind}
 use Rattle.canon.specs.Room.{Wrote}
-use Rattle.canon.specs.Bytes.{textAt, childrenAt, statesAt, rowAt}
+use Rattle.canon.specs.Bytes.{textAt, childrenAt, rowAt}
 use Rattle.canon.specs.Visiting.{rowOf, rowsBelow, ChildrenIn}
 use Rattle.canon.proofs.Room.{wrote-none, wrote-then, wrote-as}
 use Rattle.canon.proofs.Below.{rows-below}
@@ -33,13 +33,6 @@ module _ (F : List ℕ) where
   children-there N number (c ∷ cs) p b e h =
       ap₂ (λ (n : ℕ) (t : List ℕ). n ∷ t ++ childrenAt F N (length cs) (behindAt F (p + 1))) (ap (λ (k : ℕ). getD N k 0) (child-state F p c cs b e) ∙ h .0) (ap textOf (child-word F p c cs b e))
       ∙ ap (λ (l : List ℕ). number (c .state) ∷ textOf (c .after) ++ l) (children-there N number cs (behindAt F (p + 1)) b (child-behind F p c cs b e) (h .1))
-
-  -- The states of the children that stand at p.
-  pub states-there : (cs : List Child) (p : ℕ) (b : List ℕ) → drop p F ≡ childrenText cs ++ b → statesAt F (length cs) p ≡ map (λ c. c .state) cs
-  unfolding statesAt childrenText
-  states-there [] p b e = refl
-  states-there (c ∷ cs) p b e =
-      ap₂ (λ (n : ℕ) (l : List ℕ). n ∷ l) (child-state F p c cs b e) (states-there cs (behindAt F (p + 1)) b (child-behind F p c cs b e))
 
   -- The frame of a rule under number i.
   pub row-there : (N : List ℕ) (number : ℕ → ℕ) (q f i : ℕ) (r : Rule) (p : Place) → PlaceOf F r p → Each (λ c cs. getD N (c .state) 0 ≡ number (c .state)) (r .rest)

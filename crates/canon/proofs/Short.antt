@@ -10,6 +10,7 @@ use Rattle.normal.specs.Listed.{numberOf, numberedRest}
 use Rattle.normal.specs.Shrunk.{total, ByNumber}
 use Rattle.normal.proofs.Lists.{all-map}
 use Rattle.normal.proofs.Rows.{rowsOf-all}
+use Rattle.normal.proofs.Visit.{same-self}
 use Rattle.normal.proofs.Order.{order-length}
 use Rattle.normal.proofs.Made.{renumbered-all, form-made}
 use Rattle.normal.proofs.Size.{isForm-rows, isForm-total}
@@ -81,7 +82,7 @@ form-limited same M L D =
       some-symbol = L .some-symbol;
       symbols = L .symbols;
       arities = L .arities;
-      states = omega (arith, order-length same M (L .made) D, L .states);
+      states = omega (arith, order-length same M (L .made) (same-self same M D), L .states);
       before = L .before;
       after = L .after;
       rows = omega (arith, isForm-rows M (formOf same M) (L .made) (is-form same M (L .made) D), L .rows);

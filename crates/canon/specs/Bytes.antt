@@ -15,11 +15,6 @@ unfoldable pub childrenAt : List ℕ → List ℕ → ℕ → ℕ → List ℕ
 childrenAt F N zero p = []
 childrenAt F N (suc n) p = getD N (getD F p 0) 0 ∷ textAt F (p + 1) ++ childrenAt F N n (behindAt F (p + 1))
 
--- The states of n children that stand from p on, from left to right.
-unfoldable pub statesAt : List ℕ → ℕ → ℕ → List ℕ
-statesAt F zero p = []
-statesAt F (suc n) p = getD F p 0 ∷ statesAt F n (behindAt F (p + 1))
-
 -- Where what follows n children that stand from p on stands.
 unfoldable pub endAt : List ℕ → ℕ → ℕ → ℕ
 endAt F zero p = p

@@ -5,7 +5,7 @@ use Prim.Native.Nat.{ℕ, zero, _<_, _≤_}
 use lib.ListN.{length, getD, take, drop}
 use lib.Seq.{sets}
 use Rattle.machine.specs.Machine.{Table, find}
-use Rattle.machine.specs.Form.{Test, Decides, childStates, order, renumber, renumbered, formOf}
+use Rattle.machine.specs.Form.{Test, Decides, renumber, renumbered, formOf}
 use Rattle.text.specs.Lines.{hexOf}
 use Rattle.text.specs.Writing.{rowLines, writeTable}
 use Rattle.layout.specs.Layout.{Opened}
@@ -13,7 +13,7 @@ use Rattle.layout.specs.Leaves.{headOf}
 use Rattle.layout.specs.declared.Head.{Head}
 use Rattle.canon.specs.Room.{Wrote}
 use Rattle.canon.specs.Bytes.{childrenAt, endAt, span}
-use Rattle.canon.specs.Visiting.{byRep, Listing, Met, rowOf, rowsBelow, Numbered, ChildrenIn}
+use Rattle.canon.specs.Visiting.{rowOf, rowsBelow, Numbered, ChildrenIn}
 
 -- Where the digits of n children's bytes were written at `at`, the states' digits are their numbers' now.
 abbrev pub Renumbers : (F N : List ℕ) (n p at : ℕ) (S T : List ℕ) → Type 0
@@ -42,23 +42,6 @@ FormWritten F I O N head n R S next =
     (same : Test) (M : Table) → Opened F I M → head ≡ headOf M → Decides same M → Numbered same M O N n
     → (next ≡ length (writeTable (formOf same M)))
     × (length (writeTable (formOf same M)) ≤ length R → S ≡ writeTable (formOf same M) ++ drop (length (writeTable (formOf same M))) R)
-
--- The child states of state q by symbol f were met.
-abbrev pub RuleMet : (F I : List ℕ) (q f : ℕ) (rep O K : List ℕ) (n : ℕ) (P L : List ℕ) (m : ℕ) → Type 0
-RuleMet F I q f rep O K n P L m = (M : Table) → Opened F I M → Met rep (childStates (rowOf q f (find (M .rows) q f))) O K n P L m
-
--- The child states of state q by the symbols below k were met.
-abbrev pub RulesMet : (F I : List ℕ) (q k : ℕ) (rep O K : List ℕ) (n : ℕ) (P L : List ℕ) (m : ℕ) → Type 0
-RulesMet F I q k rep O K n P L m = (M : Table) → Opened F I M → Met rep (childStates (rowsBelow q (find (M .rows) q) k)) O K n P L m
-
--- The states are numbered by first visit, where classes decide sameness.
-abbrev pub StatesNumbered : (F I : List ℕ) (head : Head) (rep O N : List ℕ) (n : ℕ) → Type 0
-StatesNumbered F I head rep O N n = (M : Table) → Opened F I M → head ≡ headOf M → Decides (byRep rep) M → Numbered (byRep rep) M O N n
-
--- The states are visited: where no class was known, the first entries of O are the states by first visit, and K has the marks of their classes.
-abbrev pub Visits : (F I : List ℕ) (head : Head) (rep J O K : List ℕ) (n : ℕ) → Type 0
-Visits F I head rep J O K n =
-    (M : Table) → Opened F I M → head ≡ headOf M → Decides (byRep rep) M → ((i : ℕ) → getD J i 0 ≡ 0) → Listing rep (order (byRep rep) M) O K n
 
 -- The length of the line of state q and symbol f, under any number and by any numbers.
 abbrev pub RuleLong : (I : List ℕ) (q f r : ℕ) → Type 0

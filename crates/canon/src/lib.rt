@@ -3,21 +3,20 @@
 ghost use mathlib.Core.Path.{_≡_};
 ghost use Prim.Native.Nat.{_≤_};
 ghost use lib.ListN.{length};
-ghost use Rattle.canon.specs.Promises.{FormWritten, StatesNumbered, FormLong};
+ghost use Rattle.canon.specs.Promises.{FormWritten, FormLong};
 use crate::digits::put;
 use crate::digits::put_byte;
 use crate::lines::put_initial;
 use crate::lines::put_states;
 use crate::lines::put_symbols;
-use crate::meets::fill;
-use crate::meets::visit;
 use crate::sizes::states_length;
 use layout::Head;
 use layout::stretch;
+pub use names::number;
 
 mod digits;
 mod lines;
-mod meets;
+mod names;
 mod rows;
 mod sizes;
 
@@ -26,24 +25,6 @@ fn most(n: usize) -> usize
     ensures { λ r. ⌜ (r ≤ 64) × (n ≤ 64 → r ≡ n) ⌝ }
 {
     if n <= 64 { n } else { 64 }
-}
-
-// Numbers the states by first visit: the first entries of `order` are the states that have a number, in order; `numbers` has the number of each state.
-pub fn number(
-    frames: &[u8],
-    index: &[u64],
-    head: Head,
-    rep: &[u8],
-    order: &mut [u8],
-    numbers: &mut [u8],
-) -> usize
-    requires { ⌜ (64 ≤ length (now order)) × (64 ≤ length (now numbers)) ⌝ }
-    ensures { λ r. ⌜ (r ≤ 64) × StatesNumbered (now (frames .entry)) (now (index .entry)) head (now (rep .entry)) (now (order .exit)) (now (numbers .exit)) r ⌝ }
-{
-    let mut known = [0u8; 256];
-    let n = visit(frames, index, head, rep, order, &mut known);
-    fill(rep, &known, numbers);
-    n
 }
 
 // The length of the form's text, where the first n states of `order` are the states by first visit.

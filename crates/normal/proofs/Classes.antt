@@ -15,9 +15,10 @@ use Rattle.normal.proofs.Lists.{All, all-mem}
 use Rattle.normal.proofs.Number.{known-at}
 use Rattle.normal.proofs.Rows.{each-all}
 use Rattle.normal.proofs.Renumber.{find-children}
-use Rattle.normal.proofs.Meaning.{Numbered, listed-kids, form-word}
+use Rattle.normal.proofs.Meaning.{listed-kids, form-word}
 use Rattle.normal.proofs.Visit.{same-self}
-use Rattle.normal.proofs.Order.{order-listed, listed-inside, order-same}
+use Rattle.normal.proofs.Order.{Numbered, listed-inside, order-same}
+use Rattle.normal.proofs.Reach.{start-numbered}
 
 -- What holds of all child states of a rest, and of any state with the same words, holds of those of a matching rest.
 rests-all : (M : Table) (P : ℕ → Type 0) → ((p q : ℕ) → q < M .states → Same M M p q → P p → P q) → (cs ds : List Child) → Rests (Same M M) cs ds → All (λ d. d .state < M .states) ds → All (λ c. P (c .state)) cs → All (λ d. P (d .state)) ds
@@ -31,13 +32,8 @@ module _ (same : Test) (M : Table) (W : WellMade M) (D : Decides same M) where
   same-numbered : (p q : ℕ) → q < M .states → Same M M p q → Numbered same M p → Numbered same M q
   same-numbered p q l e n =
       let i : ℕ = numberOf same M p in
-      (l, known-at same (order same M) q i (n .1) (D (listed same M i) q (listed-inside same M W D i (n .1)) l .1 (λ t. order-same same M W D p (n .0) (n .1) t ∙ e t)))
-
-  -- The initial state is known.
-  start-numbered : Numbered same M (M .start)
-  start-numbered =
-      let v = order-listed same M W D in
-      (W .start, known-at same (order same M) (M .start) zero (v .some-state) (rw (v .first) (same-self same M W D (M .start) (W .start))))
+      let inside = listed-inside same M W (same-self same M D) i (n .1) in
+      (l, known-at same (order same M) q i (n .1) (D (listed same M i) q inside l .1 (λ t. order-same same M W D p (n .0) (n .1) t ∙ e t)))
 
   module _ (E : Earliest M) where
     -- The child states of a known state are known.
@@ -58,7 +54,7 @@ module _ (same : Test) (M : Table) (W : WellMade M) (D : Decides same M) where
 
     -- Every reached state is known.
     reached-numbered : (q : ℕ) → Reached M q → Numbered same M q
-    reached-numbered q (initial e) = rw (← e) start-numbered
+    reached-numbered q (initial e) = rw (← e) (start-numbered same M W (same-self same M D))
     reached-numbered q (below {q = p} {r = r} f h e m d) = rw (← d) (all-mem (λ c. Numbered same M (c .state)) (r .rest) (numbered-child p f r (reached-numbered p h) e) m)
 
     -- Every state of an earliest table has a number in the form.

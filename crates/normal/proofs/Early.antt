@@ -8,16 +8,17 @@ use native.Mathlib.Omega.{arith}
 use lib.ListN.{length, getElem?}
 use Rattle.words.specs.Word.{Word, _⊕_, NoPrefix, NoSuffix}
 use Rattle.words.proofs.Ends.{part-no-prefix, part-no-suffix}
-use Rattle.machine.specs.Machine.{Child, Row, Table, WellMade, Each, Rising, find}
+use Rattle.machine.specs.Machine.{Child, Table, WellMade, Each}
 use Rattle.machine.specs.Earliest.{L, Tails, Reached, initial, below, E2, LeftRule, Earliest}
 use Rattle.machine.specs.Form.{Test, Decides, order, rowsOf, childStates, renumber, formOf}
-use Rattle.machine.proofs.Find.{every-at, find-row}
+use Rattle.machine.proofs.Find.{every-at}
 use Rattle.normal.specs.Listed.{listed, numberOf, numberedRest, numberedRule}
 use Rattle.normal.proofs.Lists.{All, all-map, all-both, all-mem}
-use Rattle.normal.proofs.Rows.{rowsOf-all, rowsOf-state, all-childStates, ChildOf, childStates-of}
-use Rattle.normal.proofs.Visit.{Parent}
-use Rattle.normal.proofs.Order.{order-listed, listed-inside, order-number}
-use Rattle.normal.proofs.Meaning.{Numbered, form-find, listed-kids, form-word, form-words, form-start}
+use Rattle.normal.proofs.Rows.{rowsOf-all, all-childStates}
+use Rattle.normal.proofs.Visit.{Parent, same-self}
+use Rattle.normal.proofs.Order.{Numbered, order-listed, listed-inside, order-number}
+use Rattle.normal.proofs.Reach.{at-all, KidOf, kid-of}
+use Rattle.normal.proofs.Meaning.{form-find, listed-kids, form-word, form-words, form-start}
 use Rattle.normal.proofs.Made.{renumbered-all}
 
 module _ {I : Type 0} (X Y : I → Option Word) (e : (i : I) → Y i ≡ X i) where
@@ -29,18 +30,6 @@ module _ {I : Type 0} (X Y : I → Option Word) (e : (i : I) → Y i ≡ X i) wh
   equal-no-suffix : NoSuffix X → NoSuffix Y
   equal-no-suffix = part-no-suffix X Y (λ w h. (h .0, e (h .0) ∙ h .1))
 
--- What holds of the row at every index holds of all rows.
-at-all : (P : Row → Type 0) (rows : List Row) → ((i : ℕ) (r : Row) → getElem? rows i ≡ some r → P r) → All P rows
-at-all P [] h = tt
-at-all P (r ∷ rs) h = (h zero r refl, at-all P rs (λ i s e. h (suc i) s e))
-
--- The rule of each row of a state is found for the state and the row's symbol.
-rowsOf-found : (rows : List Row) → Rising rows → (q : ℕ) → All (λ r. find rows q (r .symbol) ≡ some (r .rule)) (rowsOf rows q)
-rowsOf-found rows h q =
-    all-map (λ r. (r .state ≡ q) × (find rows (r .state) (r .symbol) ≡ some (r .rule))) (λ r. find rows q (r .symbol) ≡ some (r .rule)) (λ r k. subst (λ (p : ℕ). find rows p (r .symbol) ≡ some (r .rule)) (k .0) (k .1)) (rowsOf rows q)
-    (all-both (λ r. r .state ≡ q) (λ r. find rows (r .state) (r .symbol) ≡ some (r .rule)) (rowsOf rows q) (rowsOf-state rows q)
-    (rowsOf-all (λ r. find rows (r .state) (r .symbol) ≡ some (r .rule)) rows q (at-all (λ r. find rows (r .state) (r .symbol) ≡ some (r .rule)) rows (find-row rows h))))
-
 -- The image of a member is a member of the list of images.
 mem-image : {A B : Type 0} {x : A} (f : A → B) (xs : List A) → List·Memᴰ x xs → List·Memᴰ (f x) (map f xs)
 mem-image f (y ∷ xs) (List·Memᴰ·head e) = List·Memᴰ·head (ap f e)
@@ -50,20 +39,19 @@ module _ (same : Test) (M : Table) (W : WellMade M) (D : Decides same M) where
   -- A number whose state is a child state of one with a reached number is reached.
   reached-kid : (j : ℕ) → j < length (order same M) → (p : Parent M (order same M) j) → Reached (formOf same M) (p .place) → Reached (formOf same M) j
   reached-kid j l p h =
-      let q : ℕ = listed same M (p .place) in
-      let k : ChildOf (rowsOf (M .rows) q) (listed same M j) = all-mem (ChildOf (rowsOf (M .rows) q)) (childStates (rowsOf (M .rows) q)) (childStates-of (rowsOf (M .rows) q)) (p .kid) in
-      let e : find (M .rows) q (k .row .symbol) ≡ some (k .row .rule) = all-mem (λ r. find (M .rows) q (r .symbol) ≡ some (r .rule)) (rowsOf (M .rows) q) (rowsOf-found (M .rows) (W .rising) q) (k .has-row) in
-      below (k .row .symbol) h
-      (form-find same M W D (p .place) (k .row .symbol) (omega (arith, p .earlier)) ∙ ap (Option·map (numberedRule (numberOf same M))) e)
-      (mem-image (λ c. record { state = numberOf same M (c .state); after = c .after }) (k .row .rule .rest) (k .has-child))
-      (ap (numberOf same M) (k .is) ∙ order-number same M W D j l)
+      let k : KidOf M (listed same M (p .place)) (listed same M j) = kid-of M W (listed same M (p .place)) (listed same M j) (p .kid) in
+      below (k .symbol) h
+      (form-find same M W D (p .place) (k .symbol) (omega (arith, p .earlier)) ∙ ap (Option·map (numberedRule (numberOf same M))) (k .found))
+      (mem-image (λ c. record { state = numberOf same M (c .state); after = c .after }) (k .rule .rest) (k .among))
+      (ap (numberOf same M) (k .is) ∙ order-number same M W (same-self same M D) j l)
 
   -- All numbers below n are reached.
   reached-below : (n j : ℕ) → j < n → j < length (order same M) → Reached (formOf same M) j
   unfolding formOf
   reached-below zero j h l = absurd (omega arith)
   reached-below (suc n) j h l =
-      ⊎-elim (λ e. initial (sym e)) (λ p. reached-kid j l p (reached-below n (p .place) (omega (arith, p .earlier)) (omega (arith, p .earlier)))) (order-listed same M W D .parents j l)
+      ⊎-elim (λ e. initial (sym e)) (λ p. reached-kid j l p (reached-below n (p .place) (omega (arith, p .earlier)) (omega (arith, p .earlier))))
+      (order-listed same M W (same-self same M D) .parents j l)
 
   -- The rest of a rule of a listed state meets E2 by number if it does in the table.
   lefts-numbered : (cs : List Child) → All (λ c. Numbered same M (c .state)) cs → Each (λ c ds. NoPrefix (Tails M (c ∷ ds))) cs → Each (λ c ds. NoPrefix (Tails (formOf same M) (c ∷ ds))) (numberedRest (numberOf same M) cs)
@@ -84,14 +72,17 @@ module _ (same : Test) (M : Table) (W : WellMade M) (D : Decides same M) where
   pub form-earliest : Earliest M → Earliest (formOf same M)
   unfolding formOf
   form-earliest E =
+      let inside = listed-inside same M W (same-self same M D) in
       record {
         trimmed = record {
           reached = λ i l. reached-below (suc i) i (omega arith) l;
-          lives = λ i l. let h = E .trimmed .lives (listed same M i) (listed-inside same M W D i l) in (h .0, (h .1 .0, form-word same M W D (h .1 .0) i l ∙ h .1 .1));
+          lives = λ i l. let h = E .trimmed .lives (listed same M i) (inside i l) in (h .0, (h .1 .0, form-word same M W D (h .1 .0) i l ∙ h .1 .1));
         };
         e1 = record {
-          prefix = λ i l. equal-no-prefix (L M (listed same M i)) (L (formOf same M) i) (λ t. form-word same M W D t i l) (E .e1 .prefix (listed same M i) (listed-inside same M W D i l));
-          suffix = λ i l. equal-no-suffix (L M (listed same M i)) (L (formOf same M) i) (λ t. form-word same M W D t i l) (E .e1 .suffix (listed same M i) (listed-inside same M W D i l));
+          prefix = λ i l. equal-no-prefix (L M (listed same M i)) (L (formOf same M) i) (λ t. form-word same M W D t i l)
+              (E .e1 .prefix (listed same M i) (inside i l));
+          suffix = λ i l. equal-no-suffix (L M (listed same M i)) (L (formOf same M) i) (λ t. form-word same M W D t i l)
+              (E .e1 .suffix (listed same M i) (inside i l));
         };
         e2 = record {
           start = equal-no-prefix (λ t. L M (M .start) t ⊕ some (M .after)) (λ t. L (formOf same M) zero t ⊕ some (M .after)) (λ t. ap (λ o. o ⊕ some (M .after)) (form-start same M W D t)) (E .e2 .start);

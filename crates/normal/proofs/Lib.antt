@@ -1,4 +1,5 @@
--- The laws of the form, for a well-made table M and a test that decides sameness in it:
+-- The laws of the form, for a well-made table M and a test that decides sameness in it. For Visit, Order and Reach
+-- the test need only say that each state is the same as itself:
 --   Lists      all members of a list, members with those behind them, two lists side by side
 --   Pigeon     pigeonhole: different numbers below n are at most n
 --   Number     number-here, number-there: step by step. number-same, number-fresh, number-append, number-at: the number of a state in a list
@@ -8,6 +9,7 @@
 --   Order      visit-next, visit-done: step by step. order-listed, order-enough, order-length: the visit takes all that it lists
 --              listed-inside, listed-apart, listed-kids-known: what is listed
 --   Renumber   find-first, find-past-state, find-past-symbol: step by step. find-renumbered: number i has the rules of the i-th listed state
+--   Reach      listed-reached: the listed states are reached. known-listed, reached-known: all that are reached, where the test tells all states apart
 --   Meaning    form-find, form-word, form-words, form-apart: the form's rules and words. form-agrees: it gives every tree the table's word
 --   Made       form-made: the form is well made
 --   Early      form-earliest: the form of an earliest table is earliest
@@ -28,6 +30,7 @@ pub mod Rows
 pub mod Visit
 pub mod Order
 pub mod Renumber
+pub mod Reach
 pub mod Meaning
 pub mod Made
 pub mod Early

@@ -11,8 +11,9 @@ use Rattle.normal.specs.Listed.{listed, numberOf, numberedRest}
 use Rattle.normal.proofs.Lists.{All, Ordered, all-map, all-both, all-append, all-image}
 use Rattle.normal.proofs.Number.{Known}
 use Rattle.normal.proofs.Rows.{rising-ordered, ordered-rising, rowsOf-all, rowsOf-state, rowsOf-ordered, all-childStates}
-use Rattle.normal.proofs.Order.{order-listed}
-use Rattle.normal.proofs.Meaning.{Numbered, listed-kids}
+use Rattle.normal.proofs.Visit.{same-self}
+use Rattle.normal.proofs.Order.{Numbered, order-listed}
+use Rattle.normal.proofs.Meaning.{listed-kids}
 
 module _ (number : ℕ → ℕ) (rows : List Row) where
   -- What holds of the rows of each listed state, by its number, holds of all renumbered rows.
@@ -91,7 +92,7 @@ module _ (same : Test) (M : Table) (W : WellMade M) (D : Decides same M) where
   unfolding formOf
   form-made =
       record {
-        start = order-listed same M W D .some-state;
+        start = order-listed same M W (same-self same M D) .some-state;
         rows = renumbered-all (numberOf same M) (M .rows) (RowFits (formOf same M)) zero (order same M) (λ i l. subst (λ (n : ℕ). All (λ r. RowFits (formOf same M) (renumber (numberOf same M) n r)) (rowsOf (M .rows) (listed same M i))) (omega arith) (rows-fit i l));
         rising = ordered-rising (renumbered (numberOf same M) (M .rows) zero (order same M)) (renumbered-ordered (numberOf same M) (M .rows) (rising-ordered (M .rows) (W .rising)) zero (order same M));
       }

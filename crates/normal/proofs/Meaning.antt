@@ -13,12 +13,9 @@ use Rattle.normal.specs.Listed.{kids, listed, numberOf, numberedRest, nu
 use Rattle.normal.proofs.Lists.{All, all-both}
 use Rattle.normal.proofs.Number.{Known}
 use Rattle.normal.proofs.Rows.{kids-inside}
-use Rattle.normal.proofs.Order.{order-listed, listed-apart, order-same}
+use Rattle.normal.proofs.Visit.{same-self}
+use Rattle.normal.proofs.Order.{Numbered, order-listed, listed-apart, order-same}
 use Rattle.normal.proofs.Renumber.{find-children, find-renumbered}
-
--- A state of the table that the order knows.
-abbrev pub Numbered : Test → Table → ℕ → Type 0
-Numbered same M q = (q < M .states) × Known same (order same M) q
 
 -- A rule by number writes the same where its rest does.
 applied : (number : ℕ → ℕ) (o : Option Rule) (k l : List Child → Option Word) → ((r : Rule) → o ≡ some r → k (numberedRest number (r .rest)) ≡ l (r .rest)) → apply (Option·map (numberedRule number) o) k ≡ apply o l
@@ -35,7 +32,7 @@ module _ (same : Test) (M : Table) (W : WellMade M) (D : Decides same M) where
   pub listed-kids : (i : ℕ) → i < length (order same M) → All (Numbered same M) (kids M (listed same M i))
   listed-kids i l =
       let q : ℕ = listed same M i in
-      all-both (λ p. p < M .states) (Known same (order same M)) (kids M q) (kids-inside M W q) (order-listed same M W D .taken i l)
+      all-both (λ p. p < M .states) (Known same (order same M)) (kids M q) (kids-inside M W q) (order-listed same M W (same-self same M D) .taken i l)
 
   mutual
     unfolding word
@@ -61,7 +58,7 @@ module _ (same : Test) (M : Table) (W : WellMade M) (D : Decides same M) where
   -- Number 0 has the words of the initial state.
   pub form-start : (t : Tree) → word (formOf same M) zero t ≡ word M (M .start) t
   form-start t =
-      let v = order-listed same M W D in
+      let v = order-listed same M W (same-self same M D) in
       form-word t zero (v .some-state) ∙ ap (λ q. word M q t) (v .first)
 
   -- The form gives every tree the table's word.

@@ -48,7 +48,7 @@ module _ (same : Test) where
   meet-new seen q qs h = rw (le-ltb (numberIn same seen q) (length seen) h, meet)
 
   -- A state is known, or has no number.
-  known-or : {P : Type 0} (seen : List ℕ) (q : ℕ) → (Known same seen q → P) → (length seen ≤ numberIn same seen q → P) → P
+  pub known-or : {P : Type 0} (seen : List ℕ) (q : ℕ) → (Known same seen q → P) → (length seen ≤ numberIn same seen q → P) → P
   known-or seen q f g = elim (decLt (numberIn same seen q) (length seen)) [ yes l ↦ f l | no n ↦ g (omega arith) ]
 
   -- The list grows by some of the states that it meets.

@@ -14,7 +14,7 @@ use Rattle.normal.specs.Shrunk.{total, ByNumber, Shrunk}
 use Rattle.normal.specs.Pairs.{Pairs}
 use Rattle.normal.proofs.Lists.{All, all-map, Ordered, pairs-append}
 use Rattle.normal.proofs.Rows.{rowsOf-own, rowsOf-past}
-use Rattle.normal.proofs.Visit.{apart-different}
+use Rattle.normal.proofs.Visit.{apart-different, same-self}
 use Rattle.normal.proofs.Order.{order-listed, order-length}
 
 -- The rows of the states of a list, in turn.
@@ -99,11 +99,11 @@ total-one (r ∷ rs) = omega (arith, total-one rs)
 pub form-shrunk : (same : Test) (M : Table) → WellMade M → Decides same M → Shrunk M (formOf same M)
 unfolding formOf
 form-shrunk same M W D =
-    let v = order-listed same M W D in
+    let v = order-listed same M W (same-self same M D) in
     record {
       used = chosen (M .rows) (order same M);
       numbered = renumbered-chosen (numberOf same M) (M .rows) zero (order same M);
-      once = λ size. chosen-total size (M .rows) (order same M) (apart-different same M W D (order same M) (v .inside) (v .apart));
+      once = λ size. chosen-total size (M .rows) (order same M) (apart-different same M W (same-self same M D) (order same M) (v .inside) (v .apart));
     }
 
 module _ (M F : Table) (W : WellMade M) (f : IsForm M F) where
@@ -114,7 +114,7 @@ module _ (M F : Table) (W : WellMade M) (f : IsForm M F) where
   -- The form has at most as many states.
   pub isForm-states : F .states ≤ M .states
   unfolding formOf
-  isForm-states = rw (f .form) (order-length (f .same) M W (f .decides))
+  isForm-states = rw (f .form) (order-length (f .same) M W (same-self (f .same) M (f .decides)))
 
   -- No sum over its rows of what does not look at numbers is above the table's.
   pub isForm-total : (size : Row → ℕ) → ((r s : Row) → ByNumber r s → size r ≡ size s) → total size (F .rows) ≤ total size (M .rows)

@@ -13,6 +13,7 @@ use Rattle.normal.specs.Listed.{numberOf}
 use Rattle.normal.specs.Pairs.{Pairs}
 use Rattle.normal.proofs.Lists.{All, pairs-length}
 use Rattle.normal.proofs.Rows.{Children, all-childStates, kids-inside}
+use Rattle.normal.proofs.Visit.{same-self}
 use Rattle.normal.proofs.Order.{order-enough}
 use Rattle.normal.proofs.Lockstep.{RowsLike, number-pairs, visit-pairs, renumbered-equal}
 
@@ -44,7 +45,8 @@ module _ (M N : Table) (s t : Test) (W : WellMade M) (W′ : WellMade N) (D : De
     -- The orders of the two tables have one length and related states.
     pub orders-pairs : Pairs R (order s M) (order t N)
     orders-pairs =
-        rw (order-enough s M W D (M .states + N .states) (omega arith), order-enough t N W′ D′ (M .states + N .states) (omega arith))
+        let n : ℕ = M .states + N .states in
+        rw (order-enough s M W (same-self s M D) n (omega arith), order-enough t N W′ (same-self t N D′) n (omega arith))
         (visit-pairs s t R tests (M .rows) (N .rows) alike (M .states + N .states) zero (M .start ∷ []) (N .start ∷ []) (start, tt))
 
     -- The two tables have one form.

@@ -9,7 +9,7 @@ use native.Mathlib.Omega.{arith}
 use lib.ListN.{length, getD}
 use Rattle.machine.specs.Machine.{Table, WellMade}
 use Rattle.machine.specs.Form.{Test, Decides, meet}
-use Rattle.normal.specs.Listed.{kids}
+use Rattle.normal.specs.Listed.{Selfsame, kids}
 use Rattle.normal.proofs.Lists.{All, Ordered, all-map, all-append, mem-all}
 use Rattle.normal.proofs.Pigeon.{pigeonhole}
 use Rattle.normal.proofs.Number.{Known, Apart}
@@ -32,11 +32,11 @@ pub record Visited (same : Test) (M : Table) (i : ℕ) (seen : List ℕ) : Type 
   pub taken : (j : ℕ) → j < i → All (Known same seen) (kids M (getD seen j zero))
   pub parents : (j : ℕ) → j < length seen → (j ≡ zero) ⊎ Parent M seen j
 
-module _ (same : Test) (M : Table) (W : WellMade M) (D : Decides same M) where
-  -- A state of the table is the same as itself.
-  pub same-self : (q : ℕ) → q < M .states → same q q ≡ true
-  same-self q l = D q q l l .1 (λ t. refl)
+-- A test that decides sameness says so of a state and itself.
+pub same-self : (same : Test) (M : Table) → Decides same M → Selfsame same M
+same-self same M D q l = D q q l l .1 (λ t. refl)
 
+module _ (same : Test) (M : Table) (W : WellMade M) (S : Selfsame same M) where
   -- States that are apart are different.
   pub apart-different : (seen : List ℕ) → All (λ q. q < M .states) seen → Apart same seen → Ordered _≢_ seen
   apart-different [] h a = tt
@@ -44,7 +44,7 @@ module _ (same : Test) (M : Table) (W : WellMade M) (D : Decides same M) where
     where
       go : (xs : List ℕ) → All (λ r. same q r ≡ false) xs → All (λ r. q ≢ r) xs
       go [] k = tt
-      go (x ∷ xs) k = (λ e. true≢false (cc (same-self q (h .0), k .0, e)), go xs (k .1))
+      go (x ∷ xs) k = (λ e. true≢false (cc (S q (h .0), k .0, e)), go xs (k .1))
 
   -- The list has at most as many states as the table.
   pub visited-length : (i : ℕ) (seen : List ℕ) → Visited same M i seen → length seen ≤ M .states
@@ -107,7 +107,9 @@ module _ (same : Test) (M : Table) (W : WellMade M) (D : Decides same M) where
           rw (grown-old P seen grown g j (omega arith))
           (elim (decLt j i) [
             | yes m ↦ all-map (Known same seen) (Known same grown) (grown-known same P seen grown g) (kids M (getD seen j zero)) (v .taken j m)
-            | no m ↦ let e : j ≡ i = omega arith in rw e (meet-known same seen children (all-map (λ q. q < M .states) (λ q. same q q ≡ true) same-self children (kids-inside M W (getD seen i zero))))
+            | no m ↦
+                let e : j ≡ i = omega arith in
+                rw e (meet-known same seen children (all-map (λ q. q < M .states) (λ q. same q q ≡ true) S children (kids-inside M W (getD seen i zero))))
           ])
 
       parents : (j : ℕ) → j < length grown → (j ≡ zero) ⊎ Parent M grown j

@@ -1,9 +1,15 @@
 -- The listed states of a table, the numbers of its states, and its rules by number. Definitions only.
+use mathlib.Core.Path.{_≡_}
+use mathlib.Core.Bool.{true}
 use mathlib.Core.List.{List, map}
-use Prim.Native.Nat.{ℕ, zero}
+use Prim.Native.Nat.{ℕ, zero, _<_}
 use lib.ListN.{getD}
 use Rattle.machine.specs.Machine.{Child, Rule, Table}
 use Rattle.machine.specs.Form.{Test, numberIn, order, rowsOf, childStates}
+
+-- The test says of each state of the table that it is the same as itself. Nothing more is asked of a test for the visit.
+abbrev pub Selfsame : Test → Table → Type 0
+Selfsame same M = (q : ℕ) → q < M .states → same q q ≡ true
 
 -- The child states of a state, by rising symbol and from left to right.
 abbrev pub kids : Table → ℕ → List ℕ

@@ -8,6 +8,7 @@ use Rattle.text.specs.Writing.{rowLines}
 use Rattle.layout.specs.Leaves.{wordAt}
 use Rattle.layout.specs.declared.Head.{Head}
 use Rattle.layout.proofs.Heads.{before-word, after-word}
+use Rattle.normal.proofs.Visit.{same-self}
 use Rattle.normal.proofs.Order.{order-length}
 use Rattle.canon.proofs.Text.{order-there}
 use Rattle.canon.proofs.Lengths.{form-long}
@@ -57,7 +58,8 @@ returns c =
     λ same M N o e D h.
     let L = o .limited in
     let s : c .before .before .before .before .most .result ≡ length (M .arities) = c .before .before .before .before .most .ensures .1 (omega (arith, ap (λ (x : Head). x .symbols) e, L .symbols)) ∙ ap (λ (x : Head). x .symbols) e in
-    let n : c .before .most2 .result ≡ a .n = c .before .most2 .ensures .1 (omega (arith, h .count, order-length same M (L .made) D, L .states)) in
+    let n : c .before .most2 .result ≡ a .n = c .before .most2 .ensures .1
+    (omega (arith, h .count, order-length same M (L .made) (same-self same M D), L .states)) in
     let b : length (c .before .before .before .stretch .result .now) ≡ length (M .before) = ap length (c .before .before .before .stretch .ensures .0 ∙ ap (λ (x : Head). wordAt (a .frames .now) (x .before)) e ∙ before-word o) in
     let d : length (c .before .before .stretch2 .result .now) ≡ length (M .after) = ap length (c .before .before .stretch2 .ensures .0 ∙ ap (λ (x : Head). wordAt (a .frames .now) (x .after)) e ∙ after-word o) in
     let r = c .states-length .ensures .1 (a .frames .now) M (numberIn same (order same M)) o s (omega (arith, order-there o same (a .order .now) N (a .n) h))

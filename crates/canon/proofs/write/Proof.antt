@@ -8,6 +8,7 @@ use Rattle.layout.specs.declared.Head.{Head}
 use Rattle.canon.proofs.Room.{wrote-then, wrote-as, wrote-filled}
 use Rattle.canon.proofs.Text.{form-text, order-there, children-in}
 use Rattle.canon.proofs.Frames.{states-as}
+use Rattle.normal.proofs.Visit.{same-self}
 use Rattle.normal.proofs.Order.{order-length}
 use borrow.Author.Needs.{needs}
 use Rattle.canon.proofs.write.Statement.{statement}
@@ -43,7 +44,7 @@ returns c =
     λ same M o e D h.
     let L = o .limited in
     let s : c .before .before .before .before .before .before .before .before .before .before .before .before .before .before .before .before .before .before .before .before .before .most .result ≡ length (M .arities) = c .before .before .before .before .before .before .before .before .before .before .before .before .before .before .before .before .before .before .before .before .before .most .ensures .1 (omega (arith, ap (λ (x : Head). x .symbols) e, L .symbols)) ∙ ap (λ (x : Head). x .symbols) e in
-    let m : a .n ≤ 64 = omega (arith, h .count, order-length same M (L .made) D, L .states) in
+    let m : a .n ≤ 64 = omega (arith, h .count, order-length same M (L .made) (same-self same M D), L .states) in
     let n : c .before .before .before .before .before .before .before .before .before .before .before .before .before .before .before .before .before .before .before .before .most2 .result ≡ a .n = c .before .before .before .before .before .before .before .before .before .before .before .before .before .before .before .before .before .before .before .before .most2 .ensures .1 m in
     let w = states-as (a .order .now) (M .rows) (numberIn same (order same M)) n
     (c .before .before .before .before .before .before .before .before .before .before .put-states .ensures .1 M (numberIn same (order same M)) o s (omega (arith, order-there o same (a .order .now) (a .numbers .now) (a .n) h)) (λ j l. children-in o same (a .order .now) (a .numbers .now) (a .n) h D j (omega arith))) in
