@@ -1,26 +1,83 @@
 -- Walking a rule's children from left to right, and how the rule's summary is gathered on the way.
 use mathlib.Core.Path.{_≡_, refl, sym, ap, _∙_}
 use mathlib.Core.Bool.{Bool, true, false, _&&_}
-use mathlib.Core.List.{List, [], _∷_, _++_, append-assoc}
-use Prim.Native.Nat.{ℕ, _+_, _-_, _<_}
+use mathlib.Core.List.{List, [], _∷_}
+use Prim.Native.Nat.{ℕ, _-_, _<_, _≤_}
 use native.Mathlib.Omega.{arith}
-use lib.ListN.{length, getD, drop}
-use Rattle.machine.specs.Machine.{Child, Rule}
-use Rattle.text.specs.Writing.{textOf, childrenText}
+use lib.ListN.{length}
+use Rattle.words.specs.Word.{Word}
+use Rattle.machine.specs.Machine.{Child, Rule, Row, Table, Each}
+use Rattle.text.specs.Limits.{statesMost, lettersMost}
 use Rattle.ends.specs.Ends.{Side, left, right, end, Ends, unknown, alone, lives, before, beside, along, value, through}
 use Rattle.ends.proofs.Order.{blank-before, before-blank, gather, gathered}
-use Rattle.layout.specs.Layout.{ruleText}
-use Rattle.layout.specs.Leaves.{behindAt, RuleAt}
-use Rattle.layout.proofs.Stretches.{byte-behind, first-behind, child-state, child-behind}
-use Rattle.sides.specs.Codes.{decode, K, withChild}
-use Rattle.sides.proofs.Tests.{blank-alone}
+use Rattle.layout.specs.Layout.{framesSize, Opened}
+use Rattle.layout.specs.Leaves.{RowAt, Spot, Modest}
+use Rattle.layout.proofs.Numbered.{row-modest}
+use Rattle.summary.specs.Codes.{decode, K}
+use Rattle.summary.proofs.Tests.{blank-alone}
+use Rattle.sides.specs.Steps.{withChild}
 
+-- ---- from child to child
+-- Children with short words, and states that a table can have.
+abbrev Small : List Child → Type 0
+Small cs = Each (λ c ds. (length (c .after) ≤ lettersMost) × (c .state < statesMost)) cs
+
+-- At spot p of the bytes F stands the word u, and behind it the n children cs.
+pub record Ahead (F : List ℕ) (u : Word) (p n : ℕ) (cs : List Child) : Type 0 where
+  pub spot : Spot F u cs p
+  pub count : n ≡ length cs
+  pub small : Small cs
+
+-- The first of the children cs has state q, the word behind it stands at spot s, and behind that stand n more.
+pub record Next (F : List ℕ) (q s n : ℕ) (cs : List Child) : Type 0 where
+  pub child : Child
+  pub rest : List Child
+  pub first : cs ≡ child ∷ rest
+  pub state : q ≡ child .state
+  pub ahead : Ahead F (child .after) s n rest
+
+-- Behind the first word of a row's rule stand all its children.
+pub ahead-begun : {F I : List ℕ} {M : Table} → Opened F I M → (i : ℕ) (row : Row) → RowAt M i row → {p n : ℕ} → Spot F (row .rule .first) (row .rule .rest) p
+    → n ≡ length (row .rule .rest) → Ahead F (row .rule .first) p n (row .rule .rest)
+ahead-begun o i row e s c = record { spot = s; count = c; small = row-modest (o .limited) i row e .rest }
+
+module _ {F : List ℕ} {u : Word} {p n : ℕ} {cs : List Child} (a : Ahead F u p n cs) where
+  -- One child further on, by what is read at p.
+  pub ahead-more : 0 < n → length F ≡ framesSize → {q s : ℕ}
+      → ((v : Word) (c : Child) (ds : List Child) → Spot F v (c ∷ ds) p → c .state < statesMost → q ≡ c .state)
+      → ((v : Word) (c : Child) (ds : List Child) → length F ≡ framesSize → Spot F v (c ∷ ds) p → Spot F (c .after) ds s)
+      → Next F q s (n - 1) cs
+  ahead-more h long {q} {s} state next = go cs (a .spot) (a .count) (a .small)
+    where
+      go : (ds : List Child) → Spot F u ds p → n ≡ length ds → Small ds → Next F q s (n - 1) ds
+      go [] t c l = absurd (omega arith)
+      go (c ∷ ds) t k l =
+          record {
+            child = c;
+            rest = ds;
+            first = refl;
+            state = state u c ds t (l .0 .1);
+            ahead = record { spot = next u c ds long t; count = omega arith; small = l .1 };
+          }
+
+  -- No child is left.
+  pub ahead-none : n ≡ 0 → cs ≡ []
+  ahead-none z = go cs (a .count)
+    where
+      go : (ds : List Child) → n ≡ length ds → ds ≡ []
+      go [] c = refl
+      go (c ∷ ds) k = absurd (omega arith)
+
+-- ---- what is gathered
 -- Where no word is known of a beginning, none is known of the whole.
 beside-unknown : (side : Side) (y : Ends) → beside side unknown y ≡ unknown
 beside-unknown left y = refl
 beside-unknown right y = go (lives y)
   where
-    go : (t : Bool) → elim (t && false) as (λ x. Ends) [ true ↦ record { empty = y .empty && false; letters = through (y .empty) (y .letters) (unknown .letters) } | false ↦ unknown ] ≡ unknown
+    front : Ends
+    front = record { empty = y .empty && false; letters = through (y .empty) (y .letters) (unknown .letters) }
+
+    go : (t : Bool) → elim (t && false) as (λ x. Ends) [ true ↦ front | false ↦ unknown ] ≡ unknown
     go true = refl
     go false = refl
 
@@ -29,67 +86,39 @@ pub beside-blank : (side : Side) (x : Ends) → x ≡ beside side x (decode 1024
 beside-blank left x = sym (ap (before x) blank-alone ∙ before-blank x)
 beside-blank right x = sym (ap (λ y. before y x) blank-alone ∙ blank-before x)
 
--- The word after a child stands behind the child's state.
-pub word-bytes : (F : List ℕ) (p : ℕ) (c : Child) (cs : List Child) (b : List ℕ) → drop p F ≡ childrenText (c ∷ cs) ++ b → drop (p + 1) F ≡ textOf (c .after) ++ (childrenText cs ++ b)
-unfolding childrenText
-word-bytes F p c cs b e = byte-behind F p (c .state) (textOf (c .after) ++ (childrenText cs ++ b)) (e ∙ append-assoc (c .state ∷ textOf (c .after)) (childrenText cs) b)
-
--- The first word of a rule stands where its bytes do.
-pub first-bytes : (F : List ℕ) (p : ℕ) (r : Rule) (h : RuleAt F p r) → drop p F ≡ textOf (r .first) ++ (childrenText (r .rest) ++ h .behind)
-unfolding ruleText
-first-bytes F p r h = h .bytes ∙ append-assoc (textOf (r .first)) (childrenText (r .rest)) (h .behind)
-
--- A beginning with a child and the word behind it, step by step.
-pub child-made : (side : Side) (F xs : List ℕ) (p : ℕ) (c : Child) (cs : List Child) (b : List ℕ) → drop p F ≡ childrenText (c ∷ cs) ++ b → (x y r : Ends) (q k a : ℕ)
-    → q ≡ getD F p 0 → k ≡ getD xs q 0 → y ≡ beside side x (decode k) → decode a ≡ alone (end side (c .after)) → r ≡ beside side y (decode a) → r ≡ withChild side xs c x
-child-made side F xs p c cs b e x y r q k a eq ek ey ea er =
-    er ∙ ap (λ u. beside side u (decode a)) (ey ∙ ap (λ n. beside side x (decode n)) (ek ∙ ap (λ n. getD xs n 0) (eq ∙ child-state F p c cs b e)))
-    ∙ ap (λ u. beside side (beside side x (K xs (c .state))) u) ea
-
--- On the way: some children are left, which stand at p, and what is gathered makes the rule's summary with theirs.
+-- On the way: children are left, and what is gathered makes the rule's summary with theirs.
 pub record Left (side : Side) (F xs : List ℕ) (p n : ℕ) (x : Ends) (r : Rule) : Type 0 where
+  pub word : Word
   pub rest : List Child
-  pub behind : List ℕ
-  pub bytes : drop p F ≡ childrenText rest ++ behind
-  pub count : n ≡ length rest
+  pub ahead : Ahead F word p n rest
   pub gathers : beside side x (along side (K xs) rest) ≡ value side (K xs) r
 
-module _ (side : Side) (F xs : List ℕ) where
+module _ (side : Side) (xs : List ℕ) where
   -- Behind the first word.
-  pub left-begun : (p : ℕ) (r : Rule) (h : RuleAt F p r) → (n a q : ℕ) → n ≡ length (r .rest) → decode a ≡ alone (end side (r .first)) → q ≡ behindAt F p → Left side F xs q n (decode a) r
-  left-begun p r h n a q en ea eq =
-      record {
-        rest = r .rest;
-        behind = h .behind;
-        bytes = ap (λ (k : ℕ). drop k F) eq ∙ first-behind F p r h;
-        count = en;
-        gathers = ap (λ y. beside side y (along side (K xs) (r .rest))) ea;
-      }
+  pub left-begun : {F : List ℕ} {p n : ℕ} (r : Rule) → Ahead F (r .first) p n (r .rest) → (x : Ends) → x ≡ alone (end side (r .first)) → Left side F xs p n x r
+  left-begun r a x e = record { word = r .first; rest = r .rest; ahead = a; gathers = ap (λ y. beside side y (along side (K xs) (r .rest))) e }
 
-  module _ {p n : ℕ} {x : Ends} {r : Rule} where
+  module _ {F : List ℕ} {p n : ℕ} {x : Ends} {r : Rule} (l : Left side F xs p n x r) where
     -- One child further on.
-    pub left-more : Left side F xs p n x r → 0 < n → (y : Ends) (q : ℕ) → ((c : Child) (cs : List Child) (b : List ℕ) → drop p F ≡ childrenText (c ∷ cs) ++ b → y ≡ withChild side xs c x) → q ≡ behindAt F (p + 1) → Left side F xs q (n - 1) y r
-    left-more l h y q step eq = go (l .rest) (l .bytes) (l .count) (l .gathers)
-      where
-        go : (cs : List Child) → drop p F ≡ childrenText cs ++ l .behind → n ≡ length cs → beside side x (along side (K xs) cs) ≡ value side (K xs) r → Left side F xs q (n - 1) y r
-        go [] e c g = absurd (omega arith)
-        go (c ∷ cs) e k g =
-            record {
-              rest = cs;
-              behind = l .behind;
-              bytes = ap (λ (k : ℕ). drop k F) eq ∙ child-behind F p c cs (l .behind) e;
-              count = omega arith;
-              gathers = ap (λ z. beside side z (along side (K xs) cs)) (step c cs (l .behind) e) ∙ sym (gather side (K xs) x c cs) ∙ g;
-            }
+    pub left-more : {q s m : ℕ} (t : Next F q s m (l .rest)) → (w : Word) → w ≡ t .child .after → (y : Ends) → y ≡ withChild side x (K xs q) w
+        → Left side F xs s m y r
+    left-more {q} {s} {m} t w ew y e =
+        let child = t .child in
+        let made : y ≡ withChild side x (K xs (child .state)) (child .after) =
+        e ∙ ap (λ k. withChild side x (K xs k) w) (t .state) ∙ ap (withChild side x (K xs (child .state))) ew in
+        record {
+          word = child .after;
+          rest = t .rest;
+          ahead = t .ahead;
+          gathers =
+              ap (λ z. beside side z (along side (K xs) (t .rest))) made ∙ sym (gather side (K xs) x child (t .rest))
+              ∙ ap (λ cs. beside side x (along side (K xs) cs)) (sym (t .first)) ∙ l .gathers;
+        }
 
     -- All children are gathered.
-    pub left-done : Left side F xs p n x r → n ≡ 0 → x ≡ value side (K xs) r
-    left-done l z = go (l .rest) (l .count) (l .gathers)
-      where
-        go : (cs : List Child) → n ≡ length cs → beside side x (along side (K xs) cs) ≡ value side (K xs) r → x ≡ value side (K xs) r
-        go [] c g = sym (gathered side (K xs) x) ∙ g
-        go (c ∷ cs) k g = absurd (omega arith)
+    pub left-done : l .rest ≡ [] → x ≡ value side (K xs) r
+    left-done e = sym (gathered side (K xs) x) ∙ ap (λ cs. beside side x (along side (K xs) cs)) (sym e) ∙ l .gathers
 
     -- No word is known so far.
-    pub left-none : Left side F xs p n x r → x ≡ unknown → unknown ≡ value side (K xs) r
-    left-none l e = sym (beside-unknown side (along side (K xs) (l .rest))) ∙ ap (λ y. beside side y (along side (K xs) (l .rest))) (sym e) ∙ l .gathers
+    pub left-none : x ≡ unknown → unknown ≡ value side (K xs) r
+    left-none e = sym (beside-unknown side (along side (K xs) (l .rest))) ∙ ap (λ y. beside side y (along side (K xs) (l .rest))) (sym e) ∙ l .gathers

@@ -1,4 +1,2 @@
--- The ends of each state's words: summaries as numbers, what adding rules does to them, and which states have the empty word.
-pub mod Codes
-pub mod Blank
+-- The ends of each state's words: what adding rules does to the summaries.
 pub mod Steps

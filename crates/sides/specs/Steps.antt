@@ -1,53 +1,51 @@
 -- What is done to the summaries of the states when rules are added to them. Definitions only.
 use mathlib.Core.Path.{_≡_}
 use mathlib.Core.List.{List}
-use mathlib.Core.Option.{some}
-use Prim.Native.Nat.{ℕ, _+_, _≤_, _<_}
-use lib.ListN.{length, getD}
-use Rattle.machine.specs.Machine.{Rule, Row, Table, find}
-use Rattle.ends.specs.Ends.{Side, Ends, at, ranks}
-use Rattle.ends.specs.Meaning.{Witnessed}
+use Prim.Native.Nat.{ℕ, _≤_, _<_}
+use Rattle.words.specs.Word.{Word}
+use Rattle.machine.specs.Machine.{Row, Table}
+use Rattle.ends.specs.Ends.{Side, end, Ends, alone, beside, at}
+use Rattle.ends.specs.Meaning.{Witnessed, Covering}
 use Rattle.ends.specs.Companion.{visit}
 use Rattle.layout.specs.Layout.{Opened}
-use Rattle.sides.specs.Codes.{summaries}
-use Rattle.sides.specs.Blank.{EmptyTold}
+use Rattle.layout.specs.Leaves.{RowAt}
+use Rattle.summary.specs.Codes.{K, summaries}
+use Rattle.blank.specs.Blank.{EmptyTold, Among, AllListed}
 
--- The rule of a state and a symbol, as a row.
-abbrev pub rowOf : ℕ → ℕ → Rule → Row
-rowOf q f r = record { state = q; symbol = f; rule = r }
-
--- The numbers xs become ys, and k tells how much more is known of all states together: if it is nothing, the summaries stay.
-pub record Grown (xs ys : List ℕ) (k : ℕ) : Type 0 where
-  pub long : length ys ≡ length xs
-  pub counts : ranks (summaries ys) ≡ ranks (summaries xs) + k
-  pub stays : k ≡ 0 → summaries ys ≡ summaries xs
+-- The summary x of a rule's beginning, with a child of summary y and the word w behind it.
+abbrev pub withChild : Side → Ends → Ends → Word → Ends
+withChild side x y w = beside side (beside side x y) (alone (end side w))
 
 -- What the summaries claim is witnessed, and they tell of every empty word.
 abbrev pub Ready : Table → Side → (ℕ → Ends) → Type 0
 Ready M side k = Witnessed M side k × EmptyTold M k
 
--- Rules of a table are added to the summaries xs, which become ys. What they claim stays witnessed and the empty words stay told. If both were so and k is 0, then no rule of the states and symbols that were tried adds anything.
-pub record Tried (M : Table) (side : Side) (tried : ℕ → ℕ → Type 0) (xs ys : List ℕ) (k : ℕ) : Type 0 where
+-- Rules of a table are added to the summaries xs, which become ys. What they claim stays witnessed and the empty words stay told.
+-- If both were so and k is 0, then no rule that was tried, by its number and row, adds anything.
+pub record Tried (M : Table) (side : Side) (tried : ℕ → Row → Type 0) (xs ys : List ℕ) (k : ℕ) : Type 0 where
   pub keeps : Witnessed M side (at (summaries xs)) → Witnessed M side (at (summaries ys))
   pub tells : EmptyTold M (at (summaries xs)) → EmptyTold M (at (summaries ys))
-  pub rests : Ready M side (at (summaries xs)) → k ≡ 0 → (q f : ℕ) (r : Rule) → tried q f → find (M .rows) q f ≡ some r → visit side (rowOf q f r) (summaries ys) ≡ summaries ys
+  pub rests : Ready M side (at (summaries xs)) → k ≡ 0 → (i : ℕ) (row : Row) → RowAt M i row → tried i row
+      → visit side row (summaries ys) ≡ summaries ys
 
--- That is so for every table that is opened in the bytes F and the entries I.
-abbrev pub Adds : List ℕ → List ℕ → Side → (ℕ → ℕ → Type 0) → List ℕ → List ℕ → ℕ → Type 0
+-- That is so for every table that is opened in the bytes F and the numbers I.
+abbrev pub Adds : List ℕ → List ℕ → Side → (ℕ → Row → Type 0) → List ℕ → List ℕ → ℕ → Type 0
 Adds F I side tried xs ys k = (M : Table) → Opened F I M → Tried M side tried xs ys k
 
--- One state and one symbol.
-abbrev pub OneRule : ℕ → ℕ → ℕ → ℕ → Type 0
-OneRule q f p g = (p ≡ q) × (g ≡ f)
+-- The rules with the numbers from `from` on and before `to`.
+abbrev pub Numbers : ℕ → ℕ → ℕ → Row → Type 0
+Numbers from to i row = (from ≤ i) × (i < to)
 
--- One state and the first n symbols.
-abbrev pub OneState : ℕ → ℕ → ℕ → ℕ → Type 0
-OneState q n p g = (p ≡ q) × (g < n)
+-- The rules of state q.
+abbrev pub OneState : ℕ → ℕ → Row → Type 0
+OneState q i row = row .state ≡ q
 
--- One state and the symbols from i on and before n.
-abbrev pub LastRules : ℕ → ℕ → ℕ → ℕ → ℕ → Type 0
-LastRules q i n p g = (p ≡ q) × (i ≤ g) × (g < n)
+-- The rules of the states of an order O from place j on and before place n.
+abbrev pub States : List ℕ → ℕ → ℕ → ℕ → Row → Type 0
+States O j n i row = Among O j n (row .state)
 
--- The states of an order from place i on and before place n, and the first s symbols.
-abbrev pub States : List ℕ → ℕ → ℕ → ℕ → ℕ → ℕ → Type 0
-States O i n s p g = ((j : ℕ) × (i ≤ j) × (j < n) × (getD O j 0 ≡ p)) × (g < s)
+-- What settling makes of the summaries xs, for every table that is opened in the bytes F and the numbers I.
+-- What they claim stays witnessed, and where each state is listed and xs is ready, every word fits.
+pub record Settles (F I O : List ℕ) (n : ℕ) (side : Side) (xs ys : List ℕ) : Type 0 where
+  pub shown : (M : Table) → Opened F I M → Witnessed M side (K xs) → Witnessed M side (K ys)
+  pub fits : (M : Table) → Opened F I M → AllListed M O n → Ready M side (K xs) → Covering M side (K ys)

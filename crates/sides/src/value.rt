@@ -1,55 +1,51 @@
-// The summary of a rule's words, where the states have summaries, read from the rule's bytes.
+// The summary of a rule's words, where the states have summaries.
 ghost use mathlib.Core.Path.{_≡_};
-ghost use mathlib.Core.List.{List, _∷_, _++_};
-ghost use Prim.Native.Nat.{ℕ, _<_};
-ghost use lib.ListN.{length, getD, drop};
-ghost use Rattle.machine.specs.Machine.{Child, Rule};
-ghost use Rattle.text.specs.Writing.{childrenText};
+ghost use Prim.Native.Nat.{_<_};
+ghost use Rattle.machine.specs.Machine.{Row, Table};
+ghost use Rattle.text.specs.Limits.{rowsMost};
 ghost use Rattle.ends.specs.Ends.{value};
-ghost use Rattle.layout.specs.Leaves.{RuleAt};
-ghost use Rattle.sides.specs.Codes.{sideOf, decode, K, withChild};
-use crate::summary::alone_at;
-use crate::summary::letter_at;
-use crate::summary::next_to;
-use layout::behind;
-use layout::byte;
-use layout::wide;
+ghost use Rattle.layout.specs.Layout.{Opened};
+ghost use Rattle.layout.specs.Leaves.{RowAt};
+ghost use Rattle.summary.specs.Codes.{sideOf, decode, K};
+ghost use Rattle.sides.specs.Steps.{withChild};
+use layout::kept_of;
+use layout::kids_in;
+use layout::next_spot;
+use layout::spot_of;
+use layout::state_behind;
+use layout::word_at;
+use summary::alone_of;
+use summary::kept;
+use summary::letter_of;
+use summary::next_to;
 
-// What is kept for a state: 0 for a state that has no place.
-pub fn kept(values: &[u16], q: usize) -> u16
-    ensures { λ r. ⌜ r ≡ getD (now (values .entry)) q 0 ⌝ }
+// The summary x of a rule's beginning, with a child in state q and the word behind it. An empty word changes nothing.
+fn with_child(x: u16, q: usize, word: &[u8], side: u8, values: &[u16]) -> u16
+    ensures { λ r. ⌜ decode r ≡ withChild (sideOf side) (decode x) (K (now (values .entry)) q) (now (word .entry)) ⌝ }
 {
-    if q < values.len() { values[q] } else { 0 }
-}
-
-// The summary x of a rule's beginning, with the child at `at` and the word behind it. An empty word changes nothing.
-fn with_child(frames: &[u8], at: usize, side: u8, values: &[u16], x: u16) -> u16
-    requires { ⌜ at < 19999 ⌝ }
-    ensures { λ r. ⌜ ((c : Child) (cs : List Child) (b : List ℕ) → drop at (now (frames .entry)) ≡ childrenText (c ∷ cs) ++ b → decode r ≡ withChild (sideOf side) (now (values .entry)) c (decode x)) ⌝ }
-{
-    let state = wide(byte(frames, at));
-    let y = next_to(side, x, kept(values, state));
-    let n = wide(byte(frames, at + 1));
-    if n == 0 {
+    let y = next_to(side, x, kept(values, q));
+    if word.len() == 0 {
         return y;
     }
-    next_to(side, y, letter_at(frames, at + 1, n, side))
+    next_to(side, y, letter_of(word, side))
 }
 
-// The summary of the words of the rule with so many children whose bytes stand at `at`. Once no word is known, none will be.
-pub fn rule_value(frames: &[u8], at: usize, kids: usize, side: u8, values: &[u16]) -> u16
-    requires { ⌜ (kids < 8) × (at < 16384) ⌝ }
-    ensures { λ x. ⌜ ((r : Rule) → RuleAt (now (frames .entry)) at r → kids ≡ length (r .rest) → decode x ≡ value (sideOf side) (K (now (values .entry))) r) ⌝ }
+// The summary of the words of rule number i. Once no word is known, none will be.
+pub fn rule_value(frames: &[u8], numbers: &[u64], i: usize, side: u8, values: &[u16]) -> u16
+    requires { ⌜ i < rowsMost ⌝ }
+    ensures { λ x. ⌜ ((M : Table) (row : Row) → Opened (now (frames .entry)) (now (numbers .entry)) M → RowAt M i row
+        → decode x ≡ value (sideOf side) (K (now (values .entry))) (row .rule)) ⌝ }
 {
-    let mut x = alone_at(frames, at, side);
-    let mut p = behind(frames, at);
-    let mut left = kids;
+    let mut left = kids_in(kept_of(numbers, i));
+    let mut p = spot_of(numbers, i);
+    let mut x = alone_of(word_at(frames, p), side);
     while 0 < left {
         if x == 0 {
             return 0;
         }
-        x = with_child(frames, p, side, values, x);
-        p = behind(frames, p + 1);
+        let q = state_behind(frames, p);
+        p = next_spot(frames, p);
+        x = with_child(x, q, word_at(frames, p), side, values);
         left -= 1;
     }
     x

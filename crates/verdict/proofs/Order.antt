@@ -3,63 +3,32 @@ use mathlib.Core.Path.{_≡_, refl, sym, ap, _∙_}
 use mathlib.Core.List.{List, [], _∷_}
 use mathlib.Core.Option.{Option, none, some}
 use Prim.Native.Nat.{ℕ, zero, suc, _+_, _-_, _≤_, _<_}
-use native.Mathlib.Decide.{ℕ-discrete}
 use native.Mathlib.Numerals.{add-one}
 use native.Mathlib.Omega.{arith}
-use lib.ListN.{length}
 use Rattle.machine.specs.Machine.{Table}
 use Rattle.machine.specs.Verdict.{Verdict, earliest, late}
-use Rattle.ends.specs.Companion.{Check, least, judgeBy}
-use Rattle.verdict.specs.Reading.{rowEnd, rowsAt}
-use Rattle.verdict.specs.Judgement.{placesAt, passesAt, checkAt, leastAt, allChecks}
-use Rattle.verdict.proofs.Checks.{by-none}
+use Rattle.ends.specs.Companion.{Check, judgeBy}
+use Rattle.checks.specs.Checks.{checkAt, leastAt, allChecks}
 
--- As many rows are read as are asked for.
-pub rows-length : (F : List ℕ) (p n : ℕ) → length (rowsAt F p n) ≡ n
-unfolding rowsAt
-rows-length F p zero = refl
-rows-length F p (suc n) = ap suc (rows-length F (rowEnd F p) n)
-
--- The places of the checks 13 to 16 are the states.
-pub places-states : (n : ℕ) (T : Table) → 13 ≤ n → n ≤ 16 → placesAt n T ≡ T .states
-places-states n T l h = elim (ℕ-discrete n 13) [
-  | yes e ↦ ap (λ k. placesAt k T) e
-  | no a ↦ elim (ℕ-discrete n 14) [
-    | yes e ↦ ap (λ k. placesAt k T) e
-    | no b ↦ elim (ℕ-discrete n 15) [
-      | yes e ↦ ap (λ k. placesAt k T) e
-      | no c ↦ last (omega arith)
-    ]
-  ]
-]
-  where
-    last : n ≡ 16 → placesAt n T ≡ T .states
-    last e = ap (λ k. placesAt k T) e
-
-module _ (T : Table) (m xs ys : List ℕ) where
-  -- A number that is none of 13 to 18 has no place.
-  pub least-none : (n : ℕ) → (n ≡ 13 → ⊥) → (n ≡ 14 → ⊥) → (n ≡ 15 → ⊥) → (n ≡ 16 → ⊥) → (n ≡ 17 → ⊥) → (n ≡ 18 → ⊥) → none ≡ leastAt n T m xs ys
-  unfolding least
-  least-none n a b c d e f = sym (ap (λ k. least (passesAt n T m xs ys) k 0) (by-none n (T .states) (T .states) (T .states) (T .states) 1 (length (T .rows)) 0 a b c d e f))
-
+module _ (M : Table) (m xs ys : List ℕ) where
   -- k checks from number n on.
   unfoldable pub checksFrom : ℕ → ℕ → List Check
   checksFrom zero n = []
-  checksFrom (suc k) n = checkAt n T m xs ys ∷ checksFrom k (suc n)
+  checksFrom (suc k) n = checkAt n M m xs ys ∷ checksFrom k (suc n)
 
   -- The checks from number n to 18.
   abbrev pub upTo : ℕ → List Check
   upTo n = checksFrom (19 - n) n
 
   -- All checks are those from 13 on.
-  pub from-first : judgeBy (upTo 13) ≡ judgeBy (allChecks T m xs ys)
+  pub from-first : judgeBy (upTo 13) ≡ judgeBy (allChecks M m xs ys)
   unfolding checksFrom
   from-first = refl
 
   -- The first of the checks from number n on.
-  from-more : (n : ℕ) → n ≤ 18 → upTo n ≡ checkAt n T m xs ys ∷ upTo (n + 1)
+  from-more : (n : ℕ) → n ≤ 18 → upTo n ≡ checkAt n M m xs ys ∷ upTo (n + 1)
   unfolding checksFrom
-  from-more n h = ap (λ k. checksFrom k n) more ∙ ap (λ k. checkAt n T m xs ys ∷ checksFrom (19 - (n + 1)) k) (sym (add-one n))
+  from-more n h = ap (λ k. checksFrom k n) more ∙ ap (λ k. checkAt n M m xs ys ∷ checksFrom (19 - (n + 1)) k) (sym (add-one n))
     where
       more : 19 - n ≡ suc (19 - (n + 1))
       more = omega arith
@@ -69,16 +38,16 @@ module _ (T : Table) (m xs ys : List ℕ) where
   judgedBy n cs o = elim o [ none ↦ judgeBy cs | some p ↦ late n p ]
 
   -- What is judged from number n on, by what is found for n.
-  judge-one : (n : ℕ) → n ≤ 18 → (o : Option ℕ) → o ≡ leastAt n T m xs ys → judgedBy n (upTo (n + 1)) o ≡ judgeBy (upTo n)
+  judge-one : (n : ℕ) → n ≤ 18 → (o : Option ℕ) → o ≡ leastAt n M m xs ys → judgedBy n (upTo (n + 1)) o ≡ judgeBy (upTo n)
   unfolding judgeBy
   judge-one n h o e = sym (ap judgeBy (from-more n h) ∙ ap (λ x. judgedBy n (upTo (n + 1)) x) (sym e))
 
   -- A place that is found for n.
-  pub judge-found : (n : ℕ) → n ≤ 18 → (p : ℕ) → some p ≡ leastAt n T m xs ys → late n p ≡ judgeBy (upTo n)
+  pub judge-found : (n : ℕ) → n ≤ 18 → (p : ℕ) → some p ≡ leastAt n M m xs ys → late n p ≡ judgeBy (upTo n)
   judge-found n h p e = judge-one n h (some p) e
 
   -- No place is found for n.
-  pub judge-next : (n : ℕ) → n ≤ 18 → none ≡ leastAt n T m xs ys → judgeBy (upTo (n + 1)) ≡ judgeBy (upTo n)
+  pub judge-next : (n : ℕ) → n ≤ 18 → none ≡ leastAt n M m xs ys → judgeBy (upTo (n + 1)) ≡ judgeBy (upTo n)
   judge-next n h e = judge-one n h none e
 
   -- Nothing is left to be judged.

@@ -1,10 +1,11 @@
 -- The checks tell of the conditions of the table, so what they judge is the table's verdict.
-use mathlib.Core.Path.{_≡_, refl, sym, _∙_, subst}
-use mathlib.Core.Bool.{true, false, true≢false}
+use mathlib.Core.Path.{_≡_, refl, subst}
+use mathlib.Core.Bool.{true, false}
 use mathlib.Core.List.{List}
 use mathlib.Core.Option.{some}
 use Prim.Native.Nat.{ℕ, _<_}
-use borrow.Author.Tests.{not-true, not-false, eqb-true, eq-eqb}
+use borrow.Author.Tests.{not-true, not-false, eqb-true, eqb-false}
+use lib.Dec.{eqb}
 use lib.ListN.{length, getD, getElem?}
 use Rattle.words.specs.Word.{NoPrefix, NoSuffix}
 use Rattle.machine.specs.Machine.{Row, Table, RowFits, WellMade}
@@ -17,8 +18,8 @@ use Rattle.ends.specs.Companion.{freeRow, judgeBy}
 use Rattle.ends.proofs.Told.{lives-word, dead-word, clean-state, unclean-state}
 use Rattle.ends.proofs.Local.{all-apart, free-left, unfree-left, free-start, stuck-start}
 use Rattle.ends.proofs.Companion.{Tells, judged-by}
-use Rattle.sides.specs.Codes.{K}
-use Rattle.verdict.specs.Judgement.{checkAt, allChecks}
+use Rattle.summary.specs.Codes.{K}
+use Rattle.checks.specs.Checks.{checkAt, allChecks}
 
 -- Every state is reached.
 abbrev pub AllReached : Table → Type 0
@@ -27,8 +28,8 @@ AllReached M = (q : ℕ) → q < M .states → Reached M q
 -- What is known of a table in the end: which states are reached, and the summaries at both sides, which cover all words if every state is.
 pub record Known (M : Table) (m xs ys : List ℕ) : Type 0 where
   pub made : WellMade M
-  pub marked : (q : ℕ) → getD m q 0 ≡ 1 → Reached M q
-  pub reached : (q : ℕ) → Reached M q → getD m q 0 ≡ 1
+  pub marked : (q : ℕ) → (getD m q 0 ≡ 0 → ⊥) → Reached M q
+  pub reached : (q : ℕ) → Reached M q → getD m q 0 ≡ 0 → ⊥
   pub shown : Witnessed M left (K xs)
   pub fits : AllReached M → Covering M left (K xs)
   pub shown-right : Witnessed M right (K ys)
@@ -40,23 +41,41 @@ module _ (M : Table) (m xs ys : List ℕ) (k : Known M m xs ys) where
   tells-reached = record {
     number = refl;
     places = refl;
-    passed = λ q l e. k .marked q (eqb-true (getD m q 0) 1 e);
-    failed = λ q l e h. true≢false (sym (eq-eqb (getD m q 0) 1 (k .reached q h)) ∙ e);
+    passed = λ q l e. k .marked q (eqb-false (getD m q 0) 0 (not-true (eqb (getD m q 0) 0) e));
+    failed = λ q l e h. k .reached q h (eqb-true (getD m q 0) 0 (not-false (eqb (getD m q 0) 0) e));
   }
 
   -- The others, where 13 is met
   module _ (all : AllReached M) where
     -- 14
     tells-word : Tells (checkAt 14 M m xs ys) (record { number = 14; places = M .states; holds = HasWord M })
-    tells-word = record { number = refl; places = refl; passed = λ q l e. lives-word M left (K xs) (k .shown) q e; failed = λ q l e. dead-word M left (K xs) (k .fits all) q e }
+    tells-word = record {
+      number = refl;
+      places = refl;
+      passed = λ q l e. lives-word M left (K xs) (k .shown) q e;
+      failed = λ q l e. dead-word M left
+          (K xs) (k .fits all) q e;
+    }
 
     -- 15
     tells-prefix : Tells (checkAt 15 M m xs ys) (record { number = 15; places = M .states; holds = λ q. NoPrefix (L M q) })
-    tells-prefix = record { number = refl; places = refl; passed = λ q l e. clean-state M left (K xs) (k .shown) q e; failed = λ q l e. unclean-state M left (K xs) (k .fits all) q e }
+    tells-prefix = record {
+      number = refl;
+      places = refl;
+      passed = λ q l e. clean-state M left (K xs)
+          (k .shown) q e;
+      failed = λ q l e. unclean-state M left (K xs) (k .fits all) q e;
+    }
 
     -- 16
     tells-suffix : Tells (checkAt 16 M m xs ys) (record { number = 16; places = M .states; holds = λ q. NoSuffix (L M q) })
-    tells-suffix = record { number = refl; places = refl; passed = λ q l e. clean-state M right (K ys) (k .shown-right) q e; failed = λ q l e. unclean-state M right (K ys) (k .fits-right all) q e }
+    tells-suffix = record {
+      number = refl;
+      places = refl;
+      passed = λ q l e. clean-state M right (K ys)
+          (k .shown-right) q e;
+      failed = λ q l e. unclean-state M right (K ys) (k .fits-right all) q e;
+    }
 
     module _ (n : (q : ℕ) → q < M .states → NoPrefix (L M q)) where
       -- 17, where no state has a common prefix
@@ -70,13 +89,16 @@ module _ (M : Table) (m xs ys : List ℕ) (k : Known M m xs ys) where
           }
 
       -- 18, where no state has a common prefix
-      tells-rules : Tells (checkAt 18 M m xs ys) (record { number = 18; places = length (M .rows); holds = λ i. (r : Row) → getElem? (M .rows) i ≡ some r → LeftRule M (r .rule) })
+      tells-rules : Tells (checkAt 18 M m xs ys)
+          (record { number = 18; places = length (M .rows); holds = λ i. (r : Row) → getElem? (M .rows) i ≡ some r → LeftRule M (r .rule) })
       tells-rules =
           record {
             number = refl;
             places = refl;
-            passed = λ i l e r j. free-left M (K xs) (k .shown) (k .fits all) (r .rule) (all-apart M n (r .rule .rest) (every-at (RowFits M) (M .rows) (k .made .rows) i r j .children)) (subst (λ o. freeRow (K xs) o ≡ true) j e);
-            failed = λ i l e h. let a = index-row (M .rows) i l in unfree-left M (K xs) (k .shown) (k .fits all) (a .0 .rule) (subst (λ o. freeRow (K xs) o ≡ false) (a .1) e) (h (a .0) (a .1));
+            passed = λ i l e r j. free-left M (K xs) (k .shown) (k .fits all) (r .rule)
+                (all-apart M n (r .rule .rest) (every-at (RowFits M) (M .rows) (k .made .rows) i r j .children)) (subst (λ o. freeRow (K xs) o ≡ true) j e);
+            failed = λ i l e h. let a = index-row (M .rows) i l in unfree-left M (K xs) (k .shown) (k .fits all) (a .0 .rule)
+                (subst (λ o. freeRow (K xs) o ≡ false) (a .1) e) (h (a .0) (a .1));
           }
 
   -- What the checks judge is the verdict of the table.

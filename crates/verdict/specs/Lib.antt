@@ -1,3 +1,2 @@
--- The judgement of an opened table: rows as they are read, and what is answered.
-pub mod Reading
+-- The judgement of an opened table: what is answered.
 pub mod Judgement

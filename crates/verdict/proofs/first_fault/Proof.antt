@@ -1,25 +1,30 @@
 -- `first_fault` meets its contract. Invariant: the checks from this number on judge what all judge.
+use native.Mathlib.Omega.{arith}
+use borrow.Author.Needs.{needs}
 use mathlib.Core.Path.{_≡_, sym, ap, _∙_}
 use Prim.Native.Nat.{_-_, _≤_}
-use native.Mathlib.Omega.{arith}
+use Rattle.machine.specs.Machine.{Table}
 use Rattle.ends.specs.Companion.{judgeBy}
-use Rattle.verdict.specs.Reading.{tableAt}
-use Rattle.verdict.specs.Judgement.{allChecks, placeOf}
+use Rattle.layout.specs.Layout.{Opened}
+use Rattle.checks.specs.Checks.{placeOf, allChecks}
 use Rattle.verdict.proofs.Order.{upTo, from-first, judge-found, judge-next, judge-end}
-use borrow.Author.Needs.{needs}
 use Rattle.verdict.proofs.first_fault.Statement.{statement}
 use Rattle.verdict.proofs.first_fault.Tie as tie
 
 abbrev Inv-loop : tie.InvT-loop
-Inv-loop frames head marks left right number₀ number = (13 ≤ number) × (number ≤ 19) × (judgeBy (upTo (tableAt frames head) marks left right number) ≡ judgeBy (allChecks (tableAt frames head) marks left right))
+Inv-loop frames numbers marks left right number₀ number =
+    (13 ≤ number) × (number ≤ 19)
+    × ((M : Table) → Opened frames numbers M → judgeBy (upTo M marks left right number) ≡ judgeBy (allChecks M marks left right))
 
 abbrev μ-loop : tie.MeasureT-loop
-μ-loop frames head marks left right number₀ number = 19 - number
+μ-loop frames numbers marks left right number₀ number =
+    19 - number
 
 loop-holds : tie.Need-loop-holds Inv-loop μ-loop
 loop-holds c =
-    let a = c .before .before .before .before .args in
-    (omega arith, omega arith, from-first (tableAt (a .frames .now) (a .head)) (a .marks .now) (a .left .now) (a .right .now))
+    let c5 = c .before .before .before .before .before in
+    let a = c5 .args in
+    (omega arith, omega arith, λ M o. from-first M (a .marks .now) (a .left .now) (a .right .now))
 
 place-of-fault-requires : tie.Need-place-of-fault-requires Inv-loop μ-loop
 place-of-fault-requires c κs = search needs
@@ -29,9 +34,15 @@ enum-known-found c = search needs
 
 returns : tie.Need-returns Inv-loop μ-loop
 returns c =
-    let a = c .before .before .before .before .before .before .before .before .before .before .args in
-    let l = c .before .before .before .before .before .loop in
-    judge-found (tableAt (a .frames .now) (a .head)) (a .marks .now) (a .left .now) (a .right .now) (l .number) (c .before .before .before .before .loop-test .taken) (c .before .found .given .0 .0) (sym (ap placeOf (c .before .found .given .1)) ∙ c .before .before .before .place-of-fault .ensures) ∙ l .inv .2
+    let c4 = c .before .before .before .before in
+    let c5 = c4 .before in
+    let c11 = c5 .before .before .before .before .before .before in
+    let a = c11 .args in
+    let l = c5 .loop in
+    let found = c .before .found .given in
+    λ M o.
+    let place = sym (ap placeOf (found .1)) ∙ c .before .before .before .place-of-fault .ensures M o in
+    judge-found M (a .marks .now) (a .left .now) (a .right .now) (l .number) (c4 .loop-test .taken) (found .0 .0) place ∙ l .inv .2 M o
 
 enum-told : tie.Need-enum-told Inv-loop μ-loop
 enum-told c = search needs
@@ -44,15 +55,23 @@ loop-less c = search needs
 
 loop-again : tie.Need-loop-again Inv-loop μ-loop
 loop-again c =
-    let a = c .before .before .before .before .before .before .before .before .before .args in
-    let l = c .before .before .before .before .loop in
-    (omega arith, omega arith, judge-next (tableAt (a .frames .now) (a .head)) (a .marks .now) (a .left .now) (a .right .now) (l .number) (c .before .before .before .loop-test .taken) (sym (ap placeOf (c .enum-told .given .1)) ∙ c .before .before .place-of-fault .ensures) ∙ l .inv .2)
+    let c4 = c .before .before .before .before in
+    let c10 = c4 .before .before .before .before .before .before in
+    let a = c10 .args in
+    let l = c4 .loop in (
+      omega arith,
+      omega arith,
+      λ M o.
+          let none = sym (ap placeOf (c .enum-told .given .1)) ∙ c .before .before .place-of-fault .ensures M o in
+          judge-next M (a .marks .now) (a .left .now) (a .right .now) (l .number) (c .before .before .before .loop-test .taken) none ∙ l .inv .2 M o,
+    )
 
 returns-2 : tie.Need-returns-2 Inv-loop μ-loop
 returns-2 c =
-    let a = c .before .before .before .before .before .before .args in
+    let c7 = c .before .before .before .before .before .before .before in
+    let a = c7 .args in
     let l = c .before .loop in
-    judge-end (tableAt (a .frames .now) (a .head)) (a .marks .now) (a .left .now) (a .right .now) (l .number) (c .loop-test .left) ∙ l .inv .2
+    λ M o. judge-end M (a .marks .now) (a .left .now) (a .right .now) (l .number) (omega arith) ∙ l .inv .2 M o
 
 pub first-fault-spec : {M : Type 1} → statement M
 first-fault-spec =

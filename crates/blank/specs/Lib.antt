@@ -1,0 +1,2 @@
+-- Which states have the empty word.
+pub mod Blank

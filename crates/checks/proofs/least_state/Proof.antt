@@ -1,0 +1,79 @@
+-- `least_state` meets its contract. Invariant: the search from q on finds what the whole search finds.
+use native.Mathlib.Omega.{arith}
+use borrow.Author.Needs.{needs}
+use mathlib.Core.Path.{_≡_, sym, ap, _∙_}
+use Prim.Native.Nat.{_-_, _≤_}
+use borrow.Author.Tests.{not-true, not-false}
+use Rattle.machine.specs.Machine.{Table}
+use Rattle.ends.specs.Companion.{least}
+use Rattle.checks.specs.Checks.{passesAt}
+use Rattle.checks.proofs.Tests.{least-on, least-here, least-end}
+use Rattle.checks.proofs.least_state.Statement.{statement}
+use Rattle.checks.proofs.least_state.Tie as tie
+
+abbrev Inv-loop : tie.InvT-loop
+Inv-loop number count marks left right q₀ q =
+    (q ≤ count) × ((M : Table) → least (passesAt number M marks left right) (count - q) q ≡ least (passesAt number M marks left right) count 0)
+
+abbrev μ-loop : tie.MeasureT-loop
+μ-loop number count marks left right q₀ q =
+    count - q
+
+loop-holds : tie.Need-loop-holds Inv-loop μ-loop
+loop-holds c =
+    let a = c .before .before .before .args in
+    (omega arith, λ M. ap (λ n. least (passesAt (a .number) M (a .marks .now) (a .left .now) (a .right .now)) n 0) (omega arith))
+
+passes-requires : tie.Need-passes-requires Inv-loop μ-loop
+passes-requires c κs = search needs
+
+returns : tie.Need-returns Inv-loop μ-loop
+returns c =
+    let c7 = c .before .before .before .before .before .before .before in
+    let a = c7 .args in
+    let l = c .before .before .before .loop in
+    let p = c .before .passes in
+    λ M.
+    let failed = sym (p .ensures M) ∙ not-true (p .result) (c .if1 .taken) in
+    least-here (passesAt (a .number) M (a .marks .now) (a .left .now) (a .right .now)) (a .count) (l .q) (c .before .before .loop-test .taken) failed
+    ∙ l .inv .1 M
+
+add-q : tie.Need-add-q Inv-loop μ-loop
+add-q c = search needs
+
+loop-less : tie.Need-loop-less Inv-loop μ-loop
+loop-less c = search needs
+
+loop-again : tie.Need-loop-again Inv-loop μ-loop
+loop-again c =
+    let c7 = c .before .before .before .before .before .before .before in
+    let a = c7 .args in
+    let l = c .before .before .before .loop in
+    let p = c .before .passes in (
+      omega arith,
+      λ M.
+          let passed = sym (p .ensures M) ∙ not-false (p .result) (c .if1 .left) in
+          least-on (passesAt (a .number) M (a .marks .now) (a .left .now) (a .right .now)) (a .count) (l .q) (c .before .before .loop-test .taken) passed
+          ∙ l .inv .1 M,
+    )
+
+returns-2 : tie.Need-returns-2 Inv-loop μ-loop
+returns-2 c =
+    let c5 = c .before .before .before .before .before in
+    let a = c5 .args in
+    let l = c .before .loop in
+    λ M. least-end (passesAt (a .number) M (a .marks .now) (a .left .now) (a .right .now)) (a .count) (l .q) (omega arith) ∙ l .inv .1 M
+
+pub least-state-spec : {M : Type 1} → statement M
+least-state-spec =
+    tie.close
+    (tie.spec
+    Inv-loop
+    μ-loop
+    loop-holds
+    passes-requires
+    returns
+    add-q
+    loop-less
+    loop-again
+    returns-2)

@@ -1,0 +1,70 @@
+-- `some_narrow` meets its contract. Invariant: no word can be pushed to the left of a state before q.
+use native.Mathlib.Omega.{arith}
+use borrow.Author.Needs.{needs}
+use mathlib.Core.Bool.{true≢false}
+use mathlib.Core.List.{List}
+use Prim.Native.Nat.{ℕ, _-_}
+use lib.ListN.{length}
+use Rattle.checks.proofs.Pushing.{FirmBelow, firm-next, firm-all}
+use Rattle.checks.proofs.rules.some_narrow.Statement.{statement}
+use Rattle.checks.proofs.rules.some_narrow.Tie as tie
+
+abbrev Inv-loop : tie.InvT-loop
+Inv-loop left q₀ q =
+    FirmBelow left q
+
+abbrev μ-loop : tie.MeasureT-loop
+μ-loop left q₀ q =
+    length left - q
+
+loop-holds : tie.Need-loop-holds Inv-loop μ-loop
+loop-holds c =
+    λ p l. absurd (omega arith)
+
+mul-narrow : tie.Need-mul-narrow Inv-loop μ-loop
+mul-narrow c = search needs
+
+shared-slice-read-narrow : tie.Need-shared-slice-read-narrow Inv-loop μ-loop
+shared-slice-read-narrow c = search needs
+
+narrow-requires : tie.Need-narrow-requires Inv-loop μ-loop
+narrow-requires c κs = search needs
+
+returns : tie.Need-returns Inv-loop μ-loop
+returns c =
+    λ e. absurd (true≢false e)
+
+add-q : tie.Need-add-q Inv-loop μ-loop
+add-q c = search needs
+
+loop-less : tie.Need-loop-less Inv-loop μ-loop
+loop-less c = search needs
+
+loop-again : tie.Need-loop-again Inv-loop μ-loop
+loop-again c =
+    let c4 = c .before .before .before .before in
+    let c6 = c4 .before .before in
+    let l = c4 .loop in
+    let xs : List ℕ = c6 .args .left .now in
+    firm-next xs (l .q) (l .inv) (c .before .narrow .ensures (c .if1 .left))
+
+returns-2 : tie.Need-returns-2 Inv-loop μ-loop
+returns-2 c =
+    let xs : List ℕ = c .before .before .before .args .left .now in
+    λ e. firm-all xs (c .before .loop .q) (c .before .loop .inv) (c .loop-test .left)
+
+pub some-narrow-spec : {M : Type 1} → statement M
+some-narrow-spec =
+    tie.close
+    (tie.spec
+    Inv-loop
+    μ-loop
+    loop-holds
+    mul-narrow
+    shared-slice-read-narrow
+    narrow-requires
+    returns
+    add-q
+    loop-less
+    loop-again
+    returns-2)
