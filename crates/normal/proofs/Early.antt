@@ -1,19 +1,19 @@
 -- The form of an earliest table is earliest.
-use mathlib.Core.Path.{_≡_, refl, sym, ap, _∙_, subst}
+use mathlib.Core.Path.{_≡_, sym, ap, _∙_}
 use mathlib.Core.List.{List, [], _∷_, map, List·Memᴰ, List·Memᴰ·head, List·Memᴰ·tail}
 use mathlib.Core.Logic.{⊎-elim}
 use mathlib.Core.Option.{Option, some, Option·map}
 use Prim.Native.Nat.{ℕ, zero, suc, _<_}
 use native.Mathlib.Omega.{arith}
-use lib.ListN.{length, getElem?}
+use lib.ListN.{length}
 use Rattle.words.specs.Word.{Word, _⊕_, NoPrefix, NoSuffix}
 use Rattle.words.proofs.Ends.{part-no-prefix, part-no-suffix}
 use Rattle.machine.specs.Machine.{Child, Table, WellMade, Each}
 use Rattle.machine.specs.Earliest.{L, Tails, Reached, initial, below, E2, LeftRule, Earliest}
-use Rattle.machine.specs.Form.{Test, Decides, order, rowsOf, childStates, renumber, formOf}
+use Rattle.machine.specs.Form.{Test, Decides, order, rowsOf, renumber, formOf}
 use Rattle.machine.proofs.Find.{every-at}
 use Rattle.normal.specs.Listed.{listed, numberOf, numberedRest, numberedRule}
-use Rattle.normal.proofs.Lists.{All, all-map, all-both, all-mem}
+use Rattle.normal.proofs.Lists.{All, all-map, all-both}
 use Rattle.normal.proofs.Rows.{rowsOf-all, all-childStates}
 use Rattle.normal.proofs.Visit.{Parent, same-self}
 use Rattle.normal.proofs.Order.{Numbered, order-listed, listed-inside, order-number}

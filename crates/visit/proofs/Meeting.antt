@@ -8,7 +8,7 @@ use native.Mathlib.Omega.{arith}
 use lib.ListN.{length, getD, getElem?, take, drop, length-map, length-take, drop-of-length-le}
 use lib.Seq.{slice, slice-cons, drop-cons}
 use Rattle.machine.specs.Machine.{Child, Row, Table}
-use Rattle.machine.specs.Form.{rowsOf, childStates, meet}
+use Rattle.machine.specs.Form.{childStates, meet}
 use Rattle.machine.proofs.Find.{index-row}
 use Rattle.normal.specs.Listed.{kids}
 use Rattle.layout.specs.Leaves.{RowAt, RulesOf, stateNo}

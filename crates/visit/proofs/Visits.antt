@@ -9,7 +9,6 @@ use lib.Seq.{getD-take}
 use borrow.Author.Tests.{eq-eqb}
 use Rattle.machine.specs.Machine.{Table}
 use Rattle.machine.specs.Form.{meet, visit, order}
-use Rattle.text.specs.Limits.{statesMost}
 use Rattle.normal.specs.Listed.{Selfsame, kids}
 use Rattle.normal.proofs.Visit.{Visited, visited-start, visited-step, visited-length}
 use Rattle.normal.proofs.Order.{visit-next, visit-done, order-enough}

@@ -1,7 +1,7 @@
 // The walk over the states of an opened table in the order of first visit: each class of states that is met for the first time gets the next free number.
 // The form walks by classes of states with the same words, the judgement with each state as a class of its own.
 ghost use mathlib.Core.Path.{_≡_};
-ghost use mathlib.Core.List.{List, [], _∷_, map};
+ghost use mathlib.Core.List.{List, [], _∷_};
 ghost use Prim.Native.Nat.{ℕ, _<_, _≤_};
 ghost use lib.ListN.{length, getD};
 ghost use Rattle.machine.specs.Machine.{Rule, Table};
