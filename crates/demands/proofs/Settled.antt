@@ -4,10 +4,12 @@ use mathlib.Core.List.{List}
 use mathlib.Core.Option.{Option, none, some}
 use Prim.Native.Nat.{ℕ, zero, suc}
 use native.Mathlib.Omega.{arith}
-use Rattle.words.specs.Reply.{Reply, given, refused}
+use Rattle.words.specs.declared.No.{No}
+use Rattle.words.specs.Reply.{Reply, given, refusal, noAt}
 use Rattle.words.proofs.Replies.{given-injective}
 use Rattle.machine.specs.Machine.{Table}
-use Rattle.machine.specs.Verdict.{earliest, late}
+use Rattle.machine.specs.Verdict.{earliest, lateAs, late}
+use Rattle.machine.proofs.Judged.{late-injective}
 use Rattle.machine.specs.Form.{IsForm}
 use Rattle.normal.proofs.Unique.{form-unique}
 use Rattle.text.specs.Writing.{writeTable}
@@ -29,9 +31,9 @@ form-of-text-one text F G f g =
 -- A text's form, or the refusal in its place, is one.
 pub form-text-one : (text : List ℕ) (a b : Reply (List ℕ)) → FormText text a → FormText text b → a ≡ b
 form-text-one text (given x) (given y) h k = ap given (h .2 ∙ ap writeTable (form-of-text-one text (h .0) (k .0) (h .1) (k .1)) ∙ sym (k .2))
-form-text-one text (given x) (refused n p) h k = absurd (not-both text n p (h .1 .judged) k)
-form-text-one text (refused n p) (given y) h k = absurd (not-both text n p (k .1 .judged) h)
-form-text-one text (refused n p) (refused m r) h k = let e = judgement-one text (late n p) (late m r) h k in cc
+form-text-one text (given x) (refusal y) h k = absurd (not-both text (y .number) (y .place) (h .1 .judged) k)
+form-text-one text (refusal x) (given y) h k = absurd (not-both text (x .number) (x .place) (k .1 .judged) h)
+form-text-one text (refusal x) (refusal y) h k = ap refusal (late-injective x y (judgement-one text (lateAs x) (lateAs y) h k))
 
 -- Two answers of the form call for one text and so much room are equal.
 pub form-one : (text : List ℕ) (room : ℕ) (a b : Reply (List ℕ)) → FormAnswer text room a → FormAnswer text room b → a ≡ b
@@ -70,20 +72,24 @@ module _ (first second : List ℕ) where
     second-late : (n p : ℕ) → JudgementAnswer first earliest → JudgementAnswer second (late n p) → Cause (comparison.refused 2 n p)
     formed : (F G : Table) {a : Comparison} → Forms first second F G → Outcome F G a → Cause a
 
+  -- A no that has number 19.
+  nineteen : (x : No) → x .number ≡ 19 → Cause (comparison.refused 0 19 (x .place)) → Cause (comparison.refusal 0 x)
+  nineteen x e h = subst (λ (n : ℕ). Cause (comparison.refused 0 n (x .place))) (sym e) h
+
   cause : (a : Comparison) → ComparisonAnswer first second a → Cause a
   cause same h = formed (h .0) (h .0) (h .1) (one-form refl)
   cause different h = formed (h .0) (h .1) (h .2) (two-forms (h .3) (h .4))
-  cause (comparison.refused zero n p) h = rw (h .3) (formed (h .0) (h .1) (h .2) (two-lists p (h .4)))
-  cause (comparison.refused (suc zero) n p) h = first-late n p h
-  cause (comparison.refused (suc (suc zero)) n p) h = second-late n p (h .0) (h .1)
-  cause (comparison.refused (suc (suc (suc k))) n p) h = absurd h
+  cause (comparison.refusal zero x) h = nineteen x (h .3) (formed (h .0) (h .1) (h .2) (two-lists (x .place) (h .4)))
+  cause (comparison.refusal (suc zero) x) h = first-late (x .number) (x .place) h
+  cause (comparison.refusal (suc (suc zero)) x) h = second-late (x .number) (x .place) (h .0) (h .1)
+  cause (comparison.refusal (suc (suc (suc k))) x) h = absurd h
 
   cause-one : (a b : Comparison) → Cause a → Cause b → a ≡ b
-  cause-one _ _ (first-late n p h) (first-late m r k) = let e = judgement-one first (late n p) (late m r) h k in cc
+  cause-one _ _ (first-late n p h) (first-late m r k) = ap (comparison.refusal 1) (late-injective (noAt n p) (noAt m r) (judgement-one first (late n p) (late m r) h k))
   cause-one _ _ (first-late n p h) (second-late m r k l) = absurd (not-both first n p k h)
   cause-one _ _ (first-late n p h) (formed F G f o) = absurd (not-both first n p (f .one .judged) h)
   cause-one _ _ (second-late n p h l) (first-late m r k) = absurd (not-both first m r h k)
-  cause-one _ _ (second-late n p h l) (second-late m r k j) = let e = judgement-one second (late n p) (late m r) l j in cc
+  cause-one _ _ (second-late n p h l) (second-late m r k j) = ap (comparison.refusal 2) (late-injective (noAt n p) (noAt m r) (judgement-one second (late n p) (late m r) l j))
   cause-one _ _ (second-late n p h l) (formed F G f o) = absurd (not-both second n p (f .two .judged) l)
   cause-one _ _ (formed F G f o) (first-late m r k) = absurd (not-both first m r (f .one .judged) k)
   cause-one _ _ (formed F G f o) (second-late m r k j) = absurd (not-both second m r (f .two .judged) j)

@@ -6,7 +6,7 @@ use mathlib.Core.Option.{some}
 use Prim.Native.Nat.{ℕ, _≤_}
 use native.Mathlib.Omega.{arith}
 use Rattle.words.specs.Word.{Word}
-use Rattle.words.specs.Reply.{Reply, given, refused}
+use Rattle.words.specs.Reply.{Reply, given, refusal, refused}
 use Rattle.words.proofs.Replies.{given-refused, refused-injective}
 use Rattle.machine.specs.Machine.{Tree, Table}
 use Rattle.text.specs.Reading.{readTable}
@@ -42,7 +42,7 @@ module _ (text tree : List ℕ) (room : ℕ) where
   word-there w e = go (readTable text) refl
     where
       go : (a : Reply Table) → readTable text ≡ a → WordGiven text tree room w
-      go (refused n p) i = absurd (given-refused w n p (sym e ∙ answer-text text tree room n p i))
+      go (refusal x) i = absurd (given-refused w (x .number) (x .place) (sym e ∙ answer-text text tree room (x .number) (x .place) i))
       go (given M) i =
           let j = word-given M tree room w .0 (sym (answer-table text tree room M i) ∙ e) in
           let k = on-given M tree w .0 (j .0) in

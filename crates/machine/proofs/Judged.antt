@@ -5,10 +5,21 @@ use mathlib.Core.Logic.{inl, inr, _↔_}
 use Prim.Native.Nat.{ℕ, _<_}
 use native.Mathlib.Decide.{decLt}
 use native.Mathlib.Omega.{arith}
+use Rattle.words.specs.declared.No.{No}
+use Rattle.words.specs.Reply.{noAt}
 use Rattle.machine.specs.Machine.{Table}
 use Rattle.machine.specs.Earliest.{Earliest}
-use Rattle.machine.specs.Verdict.{Condition, conditions, Verdict, earliest, late, Met, FailsAt, JudgedBy, Judged}
+use Rattle.machine.specs.Verdict.{Condition, conditions, Verdict, earliest, lateAs, late, Met, FailsAt, JudgedBy, Judged}
 use Rattle.machine.proofs.Find.{index-below}
+
+-- The no of a late verdict, and any for earliest.
+abbrev noOf : Verdict → No
+noOf earliest = noAt 0 0
+noOf (lateAs x) = x
+
+-- Equal late verdicts are one no.
+pub late-injective : (x y : No) → lateAs x ≡ lateAs y → x ≡ y
+late-injective x y e = ap noOf e
 
 -- A verdict that names a place is not "earliest".
 late-earliest : (n p : ℕ) → earliest ≡ late n p → ⊥

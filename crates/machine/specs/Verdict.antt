@@ -5,6 +5,8 @@ use mathlib.Core.Logic.{_⊎_}
 use mathlib.Core.Option.{some}
 use Prim.Native.Nat.{ℕ, _<_}
 use lib.ListN.{length, getElem?}
+use Rattle.words.specs.declared.No.{No}
+use Rattle.words.specs.Reply.{noAt}
 use Rattle.words.specs.Word.{NoPrefix, NoSuffix}
 use Rattle.machine.specs.Machine.{Row, Table}
 use Rattle.machine.specs.Earliest.{L, Reached, HasWord, LeftStart, LeftRule}
@@ -28,7 +30,11 @@ conditions M =
 
 pub data Verdict : Type 0 where
   earliest : Verdict
-  late : ℕ → ℕ → Verdict
+  lateAs : No → Verdict
+
+-- Late with number n at place p.
+abbrev pub late : ℕ → ℕ → Verdict
+late n p = lateAs (noAt n p)
 
 -- The condition holds at every place.
 abbrev pub Met : Condition → Type 0

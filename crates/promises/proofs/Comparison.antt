@@ -10,9 +10,11 @@ use borrow.Author.Tests.{ltb-true, ltb-false, eqb-true, eqb-false, eq-eqb}
 use lib.Dec.{eqb, ltb}
 use lib.ListN.{getElem?}
 use Rattle.machine.specs.Machine.{Table}
-use Rattle.machine.specs.Verdict.{earliest, late}
+use Rattle.words.specs.Reply.{noAt}
+use Rattle.machine.proofs.Judged.{late-injective}
+use Rattle.machine.specs.Verdict.{earliest, lateAs, late}
 use Rattle.promises.specs.Judgement.{JudgementAnswer}
-use Rattle.promises.specs.Comparison.{Comparison, same, different, refused, later, parting, PartsAt, Forms, ComparisonAnswer}
+use Rattle.promises.specs.Comparison.{Comparison, same, different, refusal, refused, later, parting, PartsAt, Forms, ComparisonAnswer}
 use Rattle.promises.proofs.Judgement.{judgement-one, not-both}
 
 -- ---- symbol lists
@@ -107,10 +109,10 @@ module _ (first second : List ℕ) where
       there : (b : Comparison) → ComparisonAnswer first second b → b ≡ refused 1 n p
       there same k = absurd (not-both first n p (k .1 .one .judged) h)
       there different k = absurd (not-both first n p (k .2 .one .judged) h)
-      there (refused zero m r) k = absurd (not-both first n p (k .2 .one .judged) h)
-      there (refused (suc zero) m r) k = let e = judgement-one first (late m r) (late n p) k h in cc
-      there (refused (suc (suc zero)) m r) k = absurd (not-both first n p (k .0) h)
-      there (refused (suc (suc (suc t))) m r) k = absurd k
+      there (refusal zero x) k = absurd (not-both first n p (k .2 .one .judged) h)
+      there (refusal (suc zero) x) k = ap (refusal 1) (late-injective x (noAt n p) (judgement-one first (lateAs x) (late n p) k h))
+      there (refusal (suc (suc zero)) x) k = absurd (not-both first n p (k .0) h)
+      there (refusal (suc (suc (suc t))) x) k = absurd k
 
   -- A second table that is refused is told, as 2, where the first is earliest.
   pub second-late : (n p : ℕ) → JudgementAnswer first earliest → JudgementAnswer second (late n p)
@@ -120,10 +122,10 @@ module _ (first second : List ℕ) where
       there : (b : Comparison) → ComparisonAnswer first second b → b ≡ refused 2 n p
       there same k = absurd (not-both second n p (k .1 .two .judged) h)
       there different k = absurd (not-both second n p (k .2 .two .judged) h)
-      there (refused zero m r) k = absurd (not-both second n p (k .2 .two .judged) h)
-      there (refused (suc zero) m r) k = absurd (not-both first m r g k)
-      there (refused (suc (suc zero)) m r) k = let e = judgement-one second (late m r) (late n p) (k .1) h in cc
-      there (refused (suc (suc (suc t))) m r) k = absurd k
+      there (refusal zero x) k = absurd (not-both second n p (k .2 .two .judged) h)
+      there (refusal (suc zero) x) k = absurd (not-both first (x .number) (x .place) g k)
+      there (refusal (suc (suc zero)) x) k = ap (refusal 2) (late-injective x (noAt n p) (judgement-one second (lateAs x) (late n p) (k .1) h))
+      there (refusal (suc (suc (suc t))) x) k = absurd k
 
   -- 0 is told with 19 alone, where two forms' symbol lists part.
   pub lists-part : (n p : ℕ) → ComparisonAnswer first second (refused 0 n p)

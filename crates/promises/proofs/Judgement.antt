@@ -4,7 +4,7 @@ use mathlib.Core.List.{List}
 use mathlib.Core.Logic.{_↔_}
 use Prim.Native.Nat.{ℕ}
 use native.Mathlib.Omega.{arith}
-use Rattle.words.specs.Reply.{Reply, given, refused}
+use Rattle.words.specs.Reply.{Reply, given, refusal}
 use Rattle.machine.specs.Machine.{Table}
 use Rattle.machine.specs.Earliest.{Earliest}
 use Rattle.machine.specs.Verdict.{Verdict, earliest, late, Judged}
@@ -18,7 +18,7 @@ judgement-one text v v′ = go (readTable text)
   where
     go : (a : Reply Table) → JudgedReading a v → JudgedReading a v′ → v ≡ v′
     go (given M) h k = judged-unique M v v′ h k
-    go (refused n p) h k = h ∙ sym k
+    go (refusal x) h k = h ∙ sym k
 
 -- A text is judged earliest or late, and not both.
 pub not-both : (text : List ℕ) (n p : ℕ) → JudgementAnswer text earliest → JudgementAnswer text (late n p) → ⊥
@@ -41,7 +41,7 @@ earliest-published text = (there, λ h. judged-from text (h .0) earliest (h .1) 
   where
     go : (a : Reply Table) → readTable text ≡ a → JudgedReading a earliest → (M : Table) × (readTable text ≡ given M) × Earliest M
     go (given M) e h = (M, e, judged-earliest M .0 h)
-    go (refused n p) e h = absurd (let z : _≡_ {A = ℕ} 0 1 = cc in omega arith)
+    go (refusal x) e h = absurd (let z : _≡_ {A = ℕ} 0 1 = cc in omega arith)
 
     there : JudgementAnswer text earliest → (M : Table) × (readTable text ≡ given M) × Earliest M
     there h = go (readTable text) refl h

@@ -6,8 +6,10 @@ use mathlib.Core.Option.{Option, none, some}
 use Prim.Native.Nat.{ℕ, zero, suc, _<_}
 use lib.Dec.{eqb}
 use lib.ListN.{getElem?}
+use Rattle.words.specs.declared.No.{No}
+use Rattle.words.specs.Reply.{noAt}
 use Rattle.machine.specs.Machine.{Table}
-use Rattle.machine.specs.Verdict.{earliest, late}
+use Rattle.machine.specs.Verdict.{earliest, lateAs}
 use Rattle.promises.specs.Judgement.{JudgementAnswer}
 use Rattle.promises.specs.Form.{FormOfText}
 
@@ -15,7 +17,11 @@ use Rattle.promises.specs.Form.{FormOfText}
 pub data Comparison : Type 0 where
   same : Comparison
   different : Comparison
-  refused : ℕ → ℕ → ℕ → Comparison
+  refusal : ℕ → No → Comparison
+
+-- The refusal about table t with number n at place p.
+abbrev pub refused : ℕ → ℕ → ℕ → Comparison
+refused t n p = refusal t (noAt n p)
 
 abbrev pub later : Option ℕ → Option ℕ
 later none = none
@@ -42,7 +48,8 @@ pub record Forms (first second : List ℕ) (F G : Table) : Type 0 where
 abbrev pub ComparisonAnswer : List ℕ → List ℕ → Comparison → Type 0
 ComparisonAnswer first second same = (F : Table) × Forms first second F F
 ComparisonAnswer first second different = (F : Table) × (G : Table) × Forms first second F G × (parting (F .arities) (G .arities) ≡ none) × (F ≡ G → ⊥)
-ComparisonAnswer first second (refused zero n p) = (F : Table) × (G : Table) × Forms first second F G × (n ≡ 19) × (parting (F .arities) (G .arities) ≡ some p)
-ComparisonAnswer first second (refused (suc zero) n p) = JudgementAnswer first (late n p)
-ComparisonAnswer first second (refused (suc (suc zero)) n p) = JudgementAnswer first earliest × JudgementAnswer second (late n p)
-ComparisonAnswer first second (refused (suc (suc (suc k))) n p) = ⊥
+ComparisonAnswer first second (refusal zero x) =
+    (F : Table) × (G : Table) × Forms first second F G × (x .number ≡ 19) × (parting (F .arities) (G .arities) ≡ some (x .place))
+ComparisonAnswer first second (refusal (suc zero) x) = JudgementAnswer first (lateAs x)
+ComparisonAnswer first second (refusal (suc (suc zero)) x) = JudgementAnswer first earliest × JudgementAnswer second (lateAs x)
+ComparisonAnswer first second (refusal (suc (suc (suc k))) x) = ⊥

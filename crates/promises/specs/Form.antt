@@ -3,9 +3,9 @@ use mathlib.Core.Path.{_≡_}
 use mathlib.Core.List.{List}
 use Prim.Native.Nat.{ℕ}
 use lib.ListN.{length}
-use Rattle.words.specs.Reply.{Reply, given, refused}
+use Rattle.words.specs.Reply.{Reply, given, refusal}
 use Rattle.machine.specs.Machine.{Table}
-use Rattle.machine.specs.Verdict.{Verdict, earliest, late}
+use Rattle.machine.specs.Verdict.{Verdict, earliest, lateAs}
 use Rattle.machine.specs.Form.{IsForm}
 use Rattle.text.specs.Reading.{readTable}
 use Rattle.text.specs.Writing.{writeTable}
@@ -22,7 +22,7 @@ pub record FormOfText (text : List ℕ) (F : Table) : Type 0 where
 -- a is the form's text, or the refusal of the text or of the judgement.
 abbrev pub FormText : List ℕ → Reply (List ℕ) → Type 0
 FormText text (given out) = (F : Table) × FormOfText text F × (out ≡ writeTable F)
-FormText text (refused n p) = JudgementAnswer text (late n p)
+FormText text (refusal x) = JudgementAnswer text (lateAs x)
 
 -- a is the answer of the form call for a table text and so many bytes of room.
 abbrev pub FormAnswer : List ℕ → ℕ → Reply (List ℕ) → Type 0

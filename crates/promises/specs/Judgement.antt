@@ -2,14 +2,14 @@
 use mathlib.Core.Path.{_≡_}
 use mathlib.Core.List.{List}
 use Prim.Native.Nat.{ℕ}
-use Rattle.words.specs.Reply.{Reply, given, refused}
+use Rattle.words.specs.Reply.{Reply, given, refusal}
 use Rattle.machine.specs.Machine.{Table}
-use Rattle.machine.specs.Verdict.{Verdict, earliest, late, Judged}
+use Rattle.machine.specs.Verdict.{Verdict, earliest, lateAs, Judged}
 use Rattle.text.specs.Reading.{readTable}
 
 abbrev pub JudgedReading : Reply Table → Verdict → Type 0
 JudgedReading (given M) v = Judged M v
-JudgedReading (refused n p) v = v ≡ late n p
+JudgedReading (refusal x) v = v ≡ lateAs x
 
 -- v is the answer of the judgement call for a table text.
 abbrev pub JudgementAnswer : List ℕ → Verdict → Type 0

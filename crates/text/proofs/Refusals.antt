@@ -7,6 +7,7 @@ use native.Mathlib.Omega.{arith}
 use lib.Dec.{eqb, leb, ltb}
 use lib.ListN.{length, getD, take, drop, length-append}
 use Rattle.words.specs.Reply.{Reply, refused, refuse-if}
+use Rattle.words.proofs.Replies.{refused-injective}
 use Rattle.machine.specs.Machine.{Table}
 use Rattle.text.specs.Limits.{textMost, symbolsMost, arityMost, statesMost, lettersMost, rowsMost}
 use Rattle.text.specs.Lines.{Lines, behind, line, linesOf}
@@ -126,8 +127,7 @@ record Told (p q n place : ℕ) : Type 0 where
 -- What is told where p stands.
 told-here : (n p m place q : ℕ) → (2 ≤ n) × (n ≤ 5) → p ≤ q → _≡_ {A = Reply Table} (refused n p) (refused m place) → Told p q m place
 told-here n p m place q h l e =
-    let x : n ≡ m = cc in
-    let y : p ≡ place = cc in
+    let x = refused-injective n p m place e in
     record { least = omega arith; most = omega arith; from = omega arith; to = omega arith }
 
 -- What is told at the end.
@@ -159,8 +159,7 @@ read-refused t n p e = go (eqb (length t) 0 || ltb textMost (length t)) e
   where
     go : (b : Bool) → refuse-if b 1 0 (readLines (symbols []) 0 (linesOf t)) ≡ refused n p → (1 ≤ n) × (n ≤ 5) × (p ≤ length t)
     go true h =
-        let x : 1 ≡ n = cc in
-        let y : 0 ≡ p = cc in
+        let x = refused-injective 1 0 n p h in
         (omega arith, omega arith, omega arith)
     go false h =
         let k = lines-told (linesOf t) t (symbols []) 0 n p refl h in
