@@ -1,15 +1,14 @@
 -- One text and one lent room have one answer: two answers that meet the contract of opening are the same, with the same bytes and numbers.
-use mathlib.Core.Path.{_≡_, sym, ap, ap₂, _∙_}
+use mathlib.Core.Path.{_≡_, refl, sym, ap, ap₂, _∙_}
 use mathlib.Core.List.{List}
 use Prim.Native.Nat.{ℕ, zero, suc, _+_, _*_, _-_, _/_, _%_, _<_, _≤_}
 use native.Mathlib.Omega.{arith}
 use native.Mathlib.Decide.{decLt}
 use lib.ListN.{length, getD}
 use lib.Seq.{ext-getD}
-use Rattle.words.specs.Reply.{Reply, given, refused}
+use Rattle.words.specs.Reply.{Reply, given, refusal}
 use Rattle.machine.specs.Machine.{Table}
 use Rattle.layout.specs.Layout.{HeadIn, Opened}
-use Rattle.layout.specs.declared.Refusal.{Refusal}
 use Rattle.table.specs.Opening.{Opens, Beyond, Unchanged}
 use Rattle.table.specs.declared.Opening.{Opening}
 use Rattle.table.specs.declared.Opening.the-variants as opening
@@ -68,18 +67,13 @@ module _ {F F′ I I₁ I₂ : List ℕ} {M : Table} (a : Opened F I₁ M) (b : 
   numbers-same : I₁ ≡ I₂
   numbers-same = ext-getD 0 I₁ I₂ (a .numbers ∙ sym (b .numbers)) λ k h. number-same k (decLt k 8) (decLt k 80) (decLt k 592)
 
--- Refusals with one number and one place are the same.
-refusal-same : (x y : Refusal) → x .number ≡ y .number → x .place ≡ y .place → x ≡ y
-refusal-same x y e f = ap₂ (λ (a b : ℕ). record { number = a; place = b }) e f
-
 -- Two answers to one reply, from the same lent bytes F and numbers I.
 pub open-one : (F I : List ℕ) (o : Reply Table) (r r′ : Opening) (F₁ I₁ F₂ I₂ : List ℕ) → Opens F₁ I₁ o r → Unchanged F I F₁ I₁ o → Opens F₂ I₂ o r′
     → Unchanged F I F₂ I₂ o → (r ≡ r′) × (F₁ ≡ F₂) × (I₁ ≡ I₂)
-open-one F I (given M) (opening.Table h) (opening.Table h′) F₁ I₁ F₂ I₂ a u b v =
-    (ap opening.Table (a .0 ∙ sym (b .0)), u .0 ∙ sym (v .0), numbers-same (a .1) (b .1) (u .1) (v .1))
-open-one F I (given M) (opening.Table h) (opening.Refused y) F₁ I₁ F₂ I₂ a u b v = absurd b
+open-one F I (given M) opening.Table opening.Table F₁ I₁ F₂ I₂ a u b v = (refl, u .0 ∙ sym (v .0), numbers-same a b (u .1) (v .1))
+open-one F I (given M) opening.Table (opening.Refused y) F₁ I₁ F₂ I₂ a u b v = absurd b
 open-one F I (given M) (opening.Refused x) r′ F₁ I₁ F₂ I₂ a u b v = absurd a
-open-one F I (refused n p) (opening.Table h) r′ F₁ I₁ F₂ I₂ a u b v = absurd a
-open-one F I (refused n p) (opening.Refused x) (opening.Table h) F₁ I₁ F₂ I₂ a u b v = absurd b
-open-one F I (refused n p) (opening.Refused x) (opening.Refused y) F₁ I₁ F₂ I₂ a u b v =
-    (ap opening.Refused (refusal-same x y (a .0 ∙ sym (b .0)) (a .1 ∙ sym (b .1))), u .0 ∙ sym (v .0), u .1 ∙ sym (v .1))
+open-one F I (refusal o) opening.Table r′ F₁ I₁ F₂ I₂ a u b v = absurd a
+open-one F I (refusal o) (opening.Refused x) opening.Table F₁ I₁ F₂ I₂ a u b v = absurd b
+open-one F I (refusal o) (opening.Refused x) (opening.Refused y) F₁ I₁ F₂ I₂ a u b v =
+    (ap opening.Refused (a ∙ sym b), u .0 ∙ sym (v .0), u .1 ∙ sym (v .1))

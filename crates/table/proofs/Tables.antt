@@ -4,7 +4,7 @@ use mathlib.Core.List.{List, _++_}
 use Prim.Native.Nat.{ℕ, _+_, _*_, _-_, _/_, _≤_}
 use native.Mathlib.Omega.{arith}
 use lib.ListN.{length, take, drop, take-append-drop}
-use Rattle.words.specs.Reply.{Reply, given, refused}
+use Rattle.words.specs.Reply.{Reply, given, refusal}
 use Rattle.machine.specs.Machine.{Table}
 use Rattle.text.specs.Reading.{readTable}
 use Rattle.text.proofs.Back.{write-read}
@@ -14,7 +14,8 @@ use Rattle.layout.specs.declared.Head.{Head}
 use Rattle.layout.proofs.Fit.{length-text, frames-fit}
 use Rattle.table.specs.Opening.{Decoded, Reads, Opens, Unchanged}
 use Rattle.table.specs.Storing.{Rules, Filled}
-use Rattle.table.specs.declared.Opening.{Opening}
+use Rattle.table.specs.declared.Decoding.{Decoding}
+use Rattle.table.specs.declared.Decoding.the-variants as decoding
 use Rattle.table.specs.declared.Opening.the-variants as opening
 use Rattle.table.proofs.Copies.{copy-long}
 
@@ -26,12 +27,12 @@ pub record IsTable (T F R : List ℕ) (h : Head) : Type 0 where
   pub decoded : Decoded F R table
 
 -- An answer with a head says so.
-pub is-table : (T F R : List ℕ) (r : Opening) (h : Head) → r ≡ opening.Table h → Reads F R (readTable T) r → IsTable T F R h
+pub is-table : (T F R : List ℕ) (r : Decoding) (h : Head) → r ≡ decoding.Table h → Reads F R (readTable T) r → IsTable T F R h
 is-table T F R r h e d = go (readTable T) refl d
   where
     go : (o : Reply Table) → readTable T ≡ o → Reads F R o r → IsTable T F R h
     go (given M) q k = let w : (h ≡ headOf M) × Decoded F R M = rw e at k in record { table = M; read = q; head = w .0; decoded = w .1 }
-    go (refused n p) q k = absurd (let z : ⊥ = rw e at k in z)
+    go (refusal y) q k = absurd (let z : ⊥ = rw e at k in z)
 
 module _ {T F R : List ℕ} {h : Head} (t : IsTable T F R h) where
   -- The table has at most 64 states and 512 rules.
@@ -83,19 +84,19 @@ module _ {T F R : List ℕ} {h : Head} (t : IsTable T F R h) where
         }
 
     -- The bytes that were read into are the opened table's.
-    pub read-opens : Opens F I′ (readTable T) (opening.Table h)
+    pub read-opens : Opens F I′ (readTable T) opening.Table
     read-opens =
         let k : ℕ = length (framesOf (t .table)) in
         let e : F ≡ framesOf (t .table) ++ drop k F = sym (take-append-drop k F) ∙ ap (λ l. l ++ drop k F) (t .decoded .frames) in
-        rw (t .read) (t .head, opened-with F (drop k F) (t .decoded .bytes) e)
+        rw (t .read) (opened-with F (drop k F) (t .decoded .bytes) e)
 
     -- Bytes that the frames were copied to are too, and what the table does not use is as it was.
     pub copied-opens : (n : ℕ) (F₀ F′ : List ℕ) → n ≡ (length T - (h .symbols + h .rules + 2)) / 2 → length F₀ ≡ framesSize → F′ ≡ take n F ++ drop n F₀
-        → Opens F′ I′ (readTable T) (opening.Table h) × Unchanged F₀ I F′ I′ (readTable T)
+        → Opens F′ I′ (readTable T) opening.Table × Unchanged F₀ I F′ I′ (readTable T)
     copied-opens n F₀ F′ is l e =
         let m = frames-inside n is in
         let k : length F′ ≡ framesSize = copy-long F F₀ F′ n (omega (arith, t .decoded .bytes)) (omega arith) e ∙ l in
         let c = frames-copied n is F₀ F′ e in (
-          rw (t .read) (t .head, opened-with F′ _ k c),
+          rw (t .read) (opened-with F′ _ k c),
           rw (t .read) (c, filled-table .beyond),
         )

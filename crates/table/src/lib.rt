@@ -2,44 +2,61 @@
 use frames::Next;
 use frames::Stage;
 use layout::Head;
-use layout::Refusal;
 use lines::Line;
+use words::No;
 ghost use mathlib.Core.Path.{_≡_};
 ghost use mathlib.Core.List.{List, _++_};
 ghost use Prim.Native.Nat.{ℕ, _+_, _*_, _-_, _/_, _<_, _≤_};
 ghost use lib.ListN.{length, take, drop};
-ghost use Rattle.words.specs.Reply.{given};
+ghost use Rattle.words.specs.Reply.{given, noAt};
 ghost use Rattle.machine.specs.Machine.{Table};
+ghost use Rattle.text.specs.Limits.{textMost};
 ghost use Rattle.text.specs.Frames as text;
 ghost use Rattle.text.specs.Reading as reading;
 ghost use Rattle.text.specs.Reading.{readTable};
 ghost use Rattle.text.specs.Writing.{Limited};
 ghost use Rattle.layout.specs.Layout.{framesSize, numbersSize};
 ghost use Rattle.frames.specs.Staged.{Staged};
-ghost use Rattle.table.specs.Opening.{Opens, Unchanged, Reads};
+ghost use Rattle.table.specs.Opening.{Opens, Unchanged, Reads, openingOf};
 
 mod store;
 
-// An opened table's numbers, or the refusal.
+// What was lent is an opened table; or the refusal.
 pub enum Opening {
-    Table(Head),
-    Refused(Refusal),
+    Table,
+    Refused(No),
 }
 
-fn refuse(number: u8, place: usize) -> Opening
-    ensures { λ r. ⌜ r ≡ Opening.Refused (record { number = number; place = place }) ⌝ }
+// What the lines of a text come to: the head of its table, or the refusal.
+pub enum Decoding {
+    Table(Head),
+    Refused(No),
+}
+
+fn refuse(number: u8, place: usize) -> Decoding
+    ensures { λ r. ⌜ r ≡ Decoding.Refused (noAt number place) ⌝ }
 {
-    Opening::Refused(Refusal { number, place })
+    Decoding::Refused(No { number, place })
+}
+
+// The same, without the head.
+fn opening_of(decoding: Decoding) -> Opening
+    ensures { λ r. ⌜ r ≡ openingOf decoding ⌝ }
+{
+    match decoding {
+        Decoding::Table(_) => Opening::Table,
+        Decoding::Refused(x) => Opening::Refused(x),
+    }
 }
 
 // What the stage at the text's end comes to: the end frame has been read, or 3 at the text's length.
-fn finish(st: Stage, place: usize) -> Opening
+fn finish(st: Stage, place: usize) -> Decoding
     ensures { λ r. ⌜ ((F R : List ℕ) (s : text.Stage) → Staged F R st s → length F ≡ framesSize
         → ((M : Table) → reading.finish s place ≡ given M → Limited M) → Reads F R (reading.finish s place) r) ⌝ }
 {
     let head = st.head;
     if st.phase == 2 {
-        Opening::Table(head)
+        Decoding::Table(head)
     } else {
         refuse(3, place)
     }
@@ -47,8 +64,8 @@ fn finish(st: Stage, place: usize) -> Opening
 
 // Reads the lines of a text in turn; the first faulty line answers. Frames go into the bytes, and
 // two numbers for each rule into the list.
-fn read_lines(text: &[u8], bytes: &mut [u8], rules: &mut [u64]) -> Opening
-    requires { ⌜ (1 ≤ length (now text)) × (length (now text) ≤ 32768) ⌝ }
+fn read_lines(text: &[u8], bytes: &mut [u8], rules: &mut [u64]) -> Decoding
+    requires { ⌜ (1 ≤ length (now text)) × (length (now text) ≤ textMost) ⌝ }
     requires { ⌜ (length (now bytes) ≡ framesSize) × (length (now rules) ≡ 1024) ⌝ }
     ensures { λ r. ⌜ Reads (now (bytes .exit)) (now (rules .exit)) (readTable (now (text .entry))) r ⌝ }
 {
@@ -72,11 +89,11 @@ fn read_lines(text: &[u8], bytes: &mut [u8], rules: &mut [u64]) -> Opening
 
 // Reads a table text, any bytes: its frames into the bytes, and two numbers for each rule into the
 // list.
-fn read_text(text: &[u8], bytes: &mut [u8], rules: &mut [u64]) -> Opening
+fn read_text(text: &[u8], bytes: &mut [u8], rules: &mut [u64]) -> Decoding
     requires { ⌜ (length (now bytes) ≡ framesSize) × (length (now rules) ≡ 1024) ⌝ }
     ensures { λ r. ⌜ Reads (now (bytes .exit)) (now (rules .exit)) (readTable (now (text .entry))) r ⌝ }
 {
-    if text.len() == 0 || 32768 < text.len() {
+    if text.len() == 0 || layout::TEXT < text.len() {
         return refuse(1, 0);
     }
     read_lines(text, bytes, rules)
@@ -89,12 +106,12 @@ pub fn read(text: &[u8], bytes: &mut [u8], numbers: &mut [u64]) -> Opening
     ensures { λ r. ⌜ Opens (now (bytes .exit)) (now (numbers .exit)) (readTable (now (text .entry))) r ⌝ }
 {
     let mut rules = [0u64; 1024];
-    let opening = read_text(text, bytes, &mut rules);
-    let Opening::Table(head) = opening else {
-        return opening;
+    let decoding = read_text(text, bytes, &mut rules);
+    let Decoding::Table(head) = decoding else {
+        return opening_of(decoding);
     };
     store::fill(numbers, head, &rules);
-    Opening::Table(head)
+    Opening::Table
 }
 
 // How many bytes the frames of a table have whose text has n: two digits each, and a line feed for
@@ -130,9 +147,9 @@ pub fn open(
 {
     let mut own = [0u8; layout::FRAMES];
     let mut rules = [0u64; 1024];
-    let opening = read_text(text, &mut own, &mut rules);
-    let Opening::Table(head) = opening else {
-        return opening;
+    let decoding = read_text(text, &mut own, &mut rules);
+    let Decoding::Table(head) = decoding else {
+        return opening_of(decoding);
     };
     copy(
         &own,
@@ -140,5 +157,5 @@ pub fn open(
         frames_length(text.len(), head.symbols, head.rules),
     );
     store::fill(numbers, head, &rules);
-    Opening::Table(head)
+    Opening::Table
 }

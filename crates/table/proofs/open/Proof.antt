@@ -9,13 +9,11 @@ use Rattle.table.proofs.open.Tie as tie
 
 returns : tie.Need-returns
 returns c =
-    let c4 = c .before .before .before .before in
-    let c8 = c4 .before .before .before .before in
-    let r = c4 .read-text in
-    let t = c .enum-told .given in
-    let a = c8 .args in
+    let r = c .before .before .before .before .before .read-text in
+    let t = c .before .enum-told .given in
+    let a = c .before .before .before .before .before .before .before .before .before .args in
     let o = readTable (a .text .now) in (
-      law.refused-opens (r .last .1 .0) (r .last .1 .1 .0) (a .bytes .now) (a .numbers .now) o (r .result) (t .0 .0) (t .1) (r .ensures),
+      law.refused-opens (r .last .1 .0) (r .last .1 .1 .0) (a .bytes .now) (a .numbers .now) o (r .result) (c .opening-of .result) (t .0 .0) (t .1) (c .opening-of .ensures) (r .ensures),
       law.refused-unchanged (r .last .1 .0) (r .last .1 .1 .0) (a .bytes .now) (a .numbers .now) o (r .result) (t .0 .0) (t .1) (r .ensures),
     )
 
@@ -23,12 +21,12 @@ returns c =
 told : (c : tie.After-known-told) →
     let r = c .before .before .before .before .before in
     let s = r .before .before .before .before in
-    table.IsTable (s .args .text .now) (r .read-text .last .1 .0) (r .read-text .last .1 .1 .0) (c .before .opening .given .0 .0)
+    table.IsTable (s .args .text .now) (r .read-text .last .1 .0) (r .read-text .last .1 .1 .0) (c .before .decoding .given .0 .0)
 told c =
     let c5 = c .before .before .before .before .before in
     let c9 = c5 .before .before .before .before in
     let r = c5 .read-text in
-    let t = c .before .opening .given in
+    let t = c .before .decoding .given in
     table.is-table (c9 .args .text .now) (r .last .1 .0) (r .last .1 .1 .0) (r .result) (t .0 .0) (t .1) (r .ensures)
 
 frames-length-requires : tie.Need-frames-length-requires
@@ -66,6 +64,7 @@ open-spec =
     (λ c κs. search needs)
     (λ c. search needs)
     (λ c. search needs)
+    (λ c κs. search needs)
     returns
     (λ c. search needs)
     frames-length-requires

@@ -8,23 +8,20 @@ use Rattle.table.proofs.read.Tie as tie
 
 returns : tie.Need-returns
 returns c =
-    let c5 = c .before .before .before .before .before in
-    let c11 = c5 .before .before .before .before .before .before in
-    let r = c5 .read-text in
-    let t = c .enum-told .given in
-    let a = c11 .args in
-    law.refused-opens (r .last .1 .0) (r .last .1 .1 .0) _ _ (readTable (a .text .now)) (r .result) (t .0 .0) (t .1) (r .ensures)
+    let r = c .before .before .before .before .before .before .read-text in
+    let t = c .before .enum-told .given in
+    law.refused-opens (r .last .1 .0) (r .last .1 .1 .0) _ _ (readTable (c .before .before .before .before .before .before .before .before .before .before .before .before .args .text .now)) (r .result) (c .opening-of .result) (t .0 .0) (t .1) (c .opening-of .ensures) (r .ensures)
 
 -- The text is that of a table.
 told : (c : tie.After-known-told) →
     let r = c .before .before .before .before .before .before in
     let s = r .before .before .before .before .before .before in
-    table.IsTable (s .args .text .now) (r .read-text .last .1 .0) (r .read-text .last .1 .1 .0) (c .before .opening .given .0 .0)
+    table.IsTable (s .args .text .now) (r .read-text .last .1 .0) (r .read-text .last .1 .1 .0) (c .before .decoding .given .0 .0)
 told c =
     let c6 = c .before .before .before .before .before .before in
     let c12 = c6 .before .before .before .before .before .before in
     let r = c6 .read-text in
-    let t = c .before .opening .given in
+    let t = c .before .decoding .given in
     table.is-table (c12 .args .text .now) (r .last .1 .0) (r .last .1 .1 .0) (r .result) (t .0 .0) (t .1) (r .ensures)
 
 fill-requires : tie.Need-fill-requires
@@ -47,6 +44,7 @@ read-spec =
     (λ c κs. search needs)
     (λ c. search needs)
     (λ c. search needs)
+    (λ c κs. search needs)
     (λ c. search needs)
     returns
     (λ c. search needs)
