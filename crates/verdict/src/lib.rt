@@ -9,12 +9,12 @@ ghost use Rattle.checks.specs.Checks.{allChecks};
 ghost use Rattle.verdict.specs.Judgement.{verdictOf};
 use checks::Fault;
 use checks::place_of_fault;
-use layout::Refusal;
+use words::No;
 
 // The judgement of a table: earliest, or the first refusal of 13 to 18 at its least place.
 pub enum Judgement {
     Earliest,
-    Late(Refusal),
+    Late(No),
 }
 
 // The checks in number order: the first that some place does not pass.
@@ -32,7 +32,7 @@ fn first_fault(
     while number <= 18 {
         let found = place_of_fault(number, frames, numbers, marks, left, right);
         if let Fault::At(place) = found {
-            return Judgement::Late(Refusal { number, place });
+            return Judgement::Late(No { number, place });
         }
         number += 1;
     }
