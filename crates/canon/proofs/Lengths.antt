@@ -1,81 +1,57 @@
--- How long the form's text is, piece by piece, and that it is never longer than the table's.
-use mathlib.Core.Path.{_≡_, refl, sym, ap, _∙_}
-use mathlib.Core.List.{List, [], _∷_, _++_, map, map-append}
-use mathlib.Core.Option.{Option, none, some}
+-- How long the form's text is, piece by piece: a rule's line is as long by any numbers.
+use mathlib.Core.Path.{_≡_, ap, _∙_}
+use mathlib.Core.List.{List, [], _∷_, _++_, map}
 use Prim.Native.Nat.{ℕ, zero, _+_, _*_, _<_}
-use native.Mathlib.Numerals.{add-one}
 use native.Mathlib.Omega.{arith}
 use lib.ListN.{length, getD, take, length-append}
-use Rattle.machine.specs.Machine.{Child, Rule, Row, Table, WellMade, find}
+use lib.Seq.{slice}
+use Rattle.machine.specs.Machine.{Child, Rule, Row, Table}
 use Rattle.machine.specs.Form.{Test, order, numberIn, rowsOf, renumber, renumbered, formOf}
-use Rattle.normal.specs.Listed.{numberedRest}
-use Rattle.text.specs.Lines.{lineOf}
+use Rattle.normal.specs.Listed.{numberedRest, numberedRule}
 use Rattle.text.specs.Writing.{textOf, childrenText, rowFrame, initialFrame, symbolLines, rowLines, writeTable}
-use Rattle.layout.specs.Layout.{restLetters, ruleLetters}
-use Rattle.layout.specs.Leaves.{LookedUp}
-use Rattle.layout.specs.declared.Place.{Place}
-use Rattle.layout.specs.declared.Lookup.the-variants.{Found, Missing}
-use Rattle.canon.specs.Visiting.{rowOf, rowsBelow}
 use Rattle.text.proofs.Lines.{length-line}
-use Rattle.text.proofs.Stages.{rows-append}
-use Rattle.canon.proofs.Below.{rows-below}
-use Rattle.canon.proofs.Frames.{renumbered-more}
+use Rattle.layout.specs.Layout.{ruleText}
+use Rattle.layout.specs.Leaves.{RulesOf}
+use Rattle.layout.proofs.Rows.{row-frame}
+use Rattle.canon.proofs.Ranges.{states-more}
 
--- The children of a rule, by any numbers.
-length-children : (number : ℕ → ℕ) (cs : List Child) → length (childrenText (numberedRest number cs)) ≡ 2 * length cs + restLetters cs
-unfolding childrenText restLetters
-length-children number [] = omega arith
-length-children number (c ∷ cs) = simp length-append (omega (arith, length-children number cs))
+module _ (number : ℕ → ℕ) where
+  -- The children's bytes are as many by any numbers.
+  length-numbered : (cs : List Child) → length (childrenText (numberedRest number cs)) ≡ length (childrenText cs)
+  unfolding childrenText
+  length-numbered [] = omega arith
+  length-numbered (c ∷ cs) = simp length-append (omega (arith, length-numbered cs))
 
--- A rule's frame, under any number and by any numbers.
-pub length-row : (number : ℕ → ℕ) (i : ℕ) (r : Row) → length (rowFrame (renumber number i r)) ≡ 4 + 2 * length (r .rule .rest) + ruleLetters (r .rule)
-unfolding rowFrame ruleLetters
-length-row number i r = simp length-append (omega (arith, length-children number (r .rule .rest)))
+  -- So are a rule's.
+  pub length-text : (r : Rule) → length (ruleText (numberedRule number r)) ≡ length (ruleText r)
+  unfolding ruleText
+  length-text r = simp length-append (omega (arith, length-numbered (r .rest)))
 
--- The line of a rule that was found.
-pub found-long : (F : List ℕ) (q f : ℕ) (M : Table) (number : ℕ → ℕ) (i : ℕ) (p : Place) → LookedUp F (find (M .rows) q f) (Found p)
-    → 9 + 4 * p .kids + 2 * p .letters ≡ length (rowLines (map (renumber number i) (rowOf q f (find (M .rows) q f))))
-unfolding rowLines
-found-long F q f M number i p l = go (find (M .rows) q f) l
-  where
-    go : (o : Option Rule) → LookedUp F o (Found p) → 9 + 4 * p .kids + 2 * p .letters ≡ length (rowLines (map (renumber number i) (rowOf q f o)))
-    go (some r) d =
-        let row : Row = record { state = q; symbol = f; rule = r } in
-        omega (arith, d .kids, d .letters, length-append (lineOf (rowFrame (renumber number i row))) [], length-line (rowFrame (renumber number i row)), length-row number i row)
-    go none d = absurd d
+  -- A rule's frame is as long, under any number.
+  pub length-row : (n : ℕ) (r : Row) → length (rowFrame (renumber number n r)) ≡ length (rowFrame r)
+  length-row n r = omega (arith, ap length (row-frame (renumber number n r)), ap length (row-frame r), length-text (r .rule))
 
--- Nothing where there is no rule.
-pub missing-long : (F : List ℕ) (q f : ℕ) (M : Table) (number : ℕ → ℕ) (i : ℕ) → LookedUp F (find (M .rows) q f) Missing
-    → 0 ≡ length (rowLines (map (renumber number i) (rowOf q f (find (M .rows) q f))))
-unfolding rowLines
-missing-long F q f M number i l = go (find (M .rows) q f) l
-  where
-    go : (o : Option Rule) → LookedUp F o Missing → 0 ≡ length (rowLines (map (renumber number i) (rowOf q f o)))
-    go (some r) d = absurd d
-    go none d = refl
+  -- So are lines.
+  length-rows : (n : ℕ) (rs : List Row) → length (rowLines (map (renumber number n) rs)) ≡ length (rowLines rs)
+  unfolding rowLines
+  length-rows n [] = omega arith
+  length-rows n (r ∷ rs) =
+      simp length-append (omega (arith, length-rows n rs, length-row n r, length-line (rowFrame (renumber number n r)), length-line (rowFrame r)))
 
--- One symbol more.
-pub rules-longer : (number : ℕ → ℕ) (q f i : ℕ) (g : ℕ → Option Rule) (a b : ℕ) → a ≡ length (rowLines (map (renumber number i) (rowsBelow q g f)))
-    → b ≡ length (rowLines (map (renumber number i) (rowOf q f (g f)))) → a + b ≡ length (rowLines (map (renumber number i) (rowsBelow q g (f + 1))))
-unfolding rowsBelow
-rules-longer number q f i g a b d e =
-    let xs : List Row = map (renumber number i) (rowsBelow q g f) in
-    let ys : List Row = map (renumber number i) (rowOf q f (g f)) in
-    let s : rowLines (map (renumber number i) (rowsBelow q g (f + 1))) ≡ rowLines xs ++ rowLines ys =
-    ap (λ (n : ℕ). rowLines (map (renumber number i) (rowsBelow q g n))) (add-one f) ∙ ap rowLines (map-append (renumber number i) (rowsBelow q g f) (rowOf q f (g f))) ∙ rows-append xs ys in
-    omega (arith, ap length s, length-append (rowLines xs) (rowLines ys))
-
--- One state more.
-pub states-longer : (number : ℕ → ℕ) (M : Table) → WellMade M → (O : List ℕ) (i q n a b : ℕ) → i < length O → q ≡ getD O i 0 → n ≡ length (M .arities)
-    → a ≡ length (rowLines (renumbered number (M .rows) zero (take i O))) → b ≡ length (rowLines (map (renumber number i) (rowsBelow q (find (M .rows) q) n)))
-    → a + b ≡ length (rowLines (renumbered number (M .rows) zero (take (i + 1) O)))
-states-longer number M W O i q n a b h e d x y =
-    let xs : List Row = renumbered number (M .rows) zero (take i O) in
-    let ys : List Row = map (renumber number i) (rowsOf (M .rows) (getD O i 0)) in
-    let z : rowsBelow q (find (M .rows) q) n ≡ rowsOf (M .rows) (getD O i 0) =
-    ap (λ (k : ℕ). rowsBelow q (find (M .rows) q) k) d ∙ sym (rows-below M W q) ∙ ap (λ (k : ℕ). rowsOf (M .rows) k) e in
-    let w : b ≡ length (rowLines ys) = y ∙ ap (λ (l : List Row). length (rowLines (map (renumber number i) l))) z in
-    omega (arith, ap length (sym (rows-append xs ys) ∙ ap rowLines (renumbered-more number (M .rows) O i h)), length-append (rowLines xs) (rowLines ys))
+  -- One state more: its lines are as long as those of its rules in the table.
+  pub states-longer : (M : Table) (O : List ℕ) (i q from to : ℕ) {a b : ℕ} → i < length O → q ≡ getD O i 0 → RulesOf M q from to
+      → a ≡ length (rowLines (renumbered number (M .rows) zero (take i O))) → b ≡ length (rowLines (slice from to (M .rows)))
+      → a + b ≡ length (rowLines (renumbered number (M .rows) zero (take (i + 1) O)))
+  states-longer M O i q from to h e own d k =
+      let xs : List ℕ = rowLines (renumbered number (M .rows) zero (take i O)) in
+      let ys : List ℕ = rowLines (map (renumber number i) (rowsOf (M .rows) q)) in
+      omega (
+        arith,
+        ap length (states-more number (M .rows) O i q h e),
+        length-append xs ys,
+        length-rows i (rowsOf (M .rows) q),
+        ap (λ (rs : List Row). length (rowLines rs)) (own .rows),
+      )
 
 -- The symbols' lines.
 length-symbol-lines : (xs : List ℕ) → length (symbolLines xs) ≡ 5 * length xs
@@ -84,8 +60,10 @@ length-symbol-lines [] = omega arith
 length-symbol-lines (a ∷ xs) = simp length-append (omega (arith, length-line (1 ∷ a ∷ []), length-symbol-lines xs))
 
 -- The form's text.
-pub form-long : (same : Test) (M : Table) (O : List ℕ) (n s b a r : ℕ) → take n O ≡ order same M → s ≡ length (M .arities) → b ≡ length (M .before) → a ≡ length (M .after)
-    → r ≡ length (rowLines (renumbered (numberIn same (order same M)) (M .rows) zero (take n O))) → 5 * s + 2 * b + 2 * a + r + 14 ≡ length (writeTable (formOf same M))
+pub form-long : (same : Test) (M : Table) (O : List ℕ) (n s b a r : ℕ) → take n O ≡ order same M → s ≡ length (M .arities) → b ≡ length (M .before)
+    → a ≡ length (M .after)
+    → r ≡ length (rowLines (renumbered (numberIn same (order same M)) (M .rows) zero (take n O)))
+    → 5 * s + 2 * b + 2 * a + r + 14 ≡ length (writeTable (formOf same M))
 unfolding writeTable formOf initialFrame
 form-long same M O n s b a r e es eb ea er =
     let rows : List Row = renumbered (numberIn same (order same M)) (M .rows) zero (order same M) in

@@ -1,7 +1,7 @@
 -- The form's text is never longer than the table's, and the form is within the limits of a table.
 use mathlib.Core.Path.{_≡_, refl, sym, ap, _∙_}
 use mathlib.Core.List.{List, [], _∷_, _++_}
-use Prim.Native.Nat.{ℕ, zero, _+_, _*_, _≤_}
+use Prim.Native.Nat.{ℕ, zero, _+_, _≤_}
 use native.Mathlib.Omega.{arith}
 use lib.ListN.{length, getD, length-append}
 use Rattle.machine.specs.Machine.{Child, Row, Table, Each, WellMade}
@@ -14,8 +14,8 @@ use Rattle.normal.proofs.Visit.{same-self}
 use Rattle.normal.proofs.Order.{order-length}
 use Rattle.normal.proofs.Made.{renumbered-all, form-made}
 use Rattle.normal.proofs.Size.{isForm-rows, isForm-total}
-use Rattle.text.specs.Writing.{textOf, childrenText, rowFrame, writeTable, Short, ShortRow, Limited}
-use Rattle.layout.specs.Layout.{rowFrames, headFrames, framesOf, ruleLetters}
+use Rattle.text.specs.Writing.{rowFrame, writeTable, Short, ShortRow, Limited}
+use Rattle.layout.specs.Layout.{rowFrames, headFrames, framesOf}
 use Rattle.layout.proofs.Fit.{length-text}
 use Rattle.layout.proofs.Heads.{length-head}
 use Rattle.canon.proofs.Lengths.{length-row}
@@ -26,18 +26,9 @@ unfolding rowFrames
 rows-total [] = refl
 rows-total (r ∷ rs) = length-append (rowFrame r) (rowFrames rs) ∙ ap (λ (n : ℕ). length (rowFrame r) + n) (rows-total rs)
 
--- Children by their own numbers.
-numbered-self : (cs : List Child) → cs ≡ numberedRest (λ q. q) cs
-numbered-self [] = refl
-numbered-self (c ∷ cs) = ap (λ (ds : List Child). c ∷ ds) (numbered-self cs)
-
 -- A row's frame is as long by any number.
 row-any : (r s : Row) → ByNumber r s → length (rowFrame r) ≡ length (rowFrame s)
-unfolding rowFrame
-row-any r s b = sym (ap (λ (x : Row). length (rowFrame x)) (b .2) ∙ length-row (b .0) (b .1) r ∙ sym self)
-  where
-    self : length (rowFrame r) ≡ 4 + 2 * length (r .rule .rest) + ruleLetters (r .rule)
-    self = ap (λ (cs : List Child). length (3 ∷ r .state ∷ r .symbol ∷ textOf (r .rule .first) ++ childrenText cs)) (numbered-self (r .rule .rest)) ∙ length-row (λ q. q) (r .state) r
+row-any r s b = sym (ap (λ (x : Row). length (rowFrame x)) (b .2) ∙ length-row (b .0) (b .1) r)
 
 module _ (same : Test) (M : Table) (W : WellMade M) (D : Decides same M) where
   -- The form is a form.
@@ -87,7 +78,8 @@ form-limited same M L D =
       after = L .after;
       rows = omega (arith, isForm-rows M (formOf same M) (L .made) (is-form same M (L .made) D), L .rows);
       short = renumbered-all (numberOf same M) (M .rows) ShortRow zero (order same M)
-          (λ j l. all-map ShortRow (λ r. ShortRow (renumber (numberOf same M) (zero + j) r)) (short-any (numberOf same M) (zero + j)) (rowsOf (M .rows) (getD (order same M) j zero))
+          (λ j l. all-map ShortRow (λ r. ShortRow (renumber (numberOf same M) (zero + j) r)) (short-any (numberOf same M) (zero + j))
+          (rowsOf (M .rows) (getD (order same M) j zero))
           (rowsOf-all ShortRow (M .rows) (getD (order same M) j zero) (L .short)));
       text = omega (arith, form-short same M (L .made) D, L .text);
     }

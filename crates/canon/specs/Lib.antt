@@ -1,5 +1,3 @@
 -- The form of an opened table: its states by first visit, and its text written into a room.
-pub mod Room
-pub mod Bytes
 pub mod Visiting
 pub mod Promises

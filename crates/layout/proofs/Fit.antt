@@ -23,7 +23,7 @@ length-symbol-lines [] = omega arith
 length-symbol-lines (a ∷ xs) = simp length-append (omega (arith, length-line (1 ∷ a ∷ []), length-symbol-lines xs))
 
 -- The rules' lines.
-length-row-lines : (rs : List Row) → length (rowLines rs) ≡ 2 * length (rowFrames rs) + length rs
+pub length-row-lines : (rs : List Row) → length (rowLines rs) ≡ 2 * length (rowFrames rs) + length rs
 unfolding rowLines rowFrames
 length-row-lines [] = omega arith
 length-row-lines (r ∷ rs) = simp length-append (omega (arith, length-line (rowFrame r), length-row-lines rs))

@@ -31,11 +31,14 @@ pub use rule::symbol_of;
 pub use spot::next_spot;
 pub use spot::state_behind;
 pub use spot::word_at;
+pub use texts::lines_length;
+pub use texts::rule_text;
 
 mod counts;
 mod kept;
 mod rule;
 mod spot;
+mod texts;
 
 // How many bytes and how many numbers a caller lends for an opened table. The bytes behind the
 // longest table's frames let a word be copied in pieces of 32.

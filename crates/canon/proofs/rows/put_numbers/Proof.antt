@@ -1,69 +1,53 @@
 -- `put_numbers` meets its contract: the children passed have their numbers over their states.
 use mathlib.Core.Path.{_≡_, refl, ap, _∙_}
-use Prim.Native.Nat.{ℕ, _+_, _*_, _≤_}
-use native.Mathlib.Omega.{arith}
+use mathlib.Core.List.{List}
+use Prim.Native.Nat.{ℕ, _+_, _-_}
 use lib.ListN.{length, getD}
-use Rattle.canon.proofs.Whole.{Redone, redone-none, redone-more, redone-all}
+use lib.Seq.{sets}
+use Rattle.machine.specs.Machine.{Rule}
+use Rattle.text.specs.Lines.{hexOf}
+use Rattle.layout.specs.Layout.{ruleText}
+use Rattle.canon.specs.Promises.{named}
+use Rattle.canon.proofs.Renaming.{Renaming, renaming-start, renaming-more, renaming-all}
 use borrow.Author.Needs.{needs}
 use Rattle.canon.proofs.rows.put_numbers.Statement.{statement}
 use Rattle.canon.proofs.rows.put_numbers.Tie as tie
 
 abbrev Inv-loop : tie.InvT-loop
-Inv-loop frames from kids numbers room₀ at pos₀ left₀ room pos left = Redone frames numbers from kids at room₀ room pos left × (from ≤ pos) × (pos + 257 * left ≤ from + 257 * kids) × (length room ≡ length room₀)
+Inv-loop text names room₀ at pos₀ room pos =
+    (length room ≡ length room₀) × ((R : List ℕ) (r : Rule) → text ≡ ruleText r → room₀ ≡ sets R at (hexOf text) → Renaming text names r R at room pos)
 
 abbrev μ-loop : tie.MeasureT-loop
-μ-loop frames from kids numbers room₀ at pos₀ left₀ room pos left = left
+μ-loop text names room₀ at pos₀ room pos = length text - pos
 
 loop-holds : tie.Need-loop-holds Inv-loop μ-loop
 loop-holds c =
-    let a = c .before .before .before .args in
-    (redone-none (a .frames .now) (a .numbers .now) (a .from) (a .kids) (a .at) (a .room .now), omega arith, omega arith, refl)
-
-byte-requires : tie.Need-byte-requires Inv-loop μ-loop
-byte-requires c κs = search needs
-
-wide-requires : tie.Need-wide-requires Inv-loop μ-loop
-wide-requires c κs = search needs
-
-sub-put-byte : tie.Need-sub-put-byte Inv-loop μ-loop
-sub-put-byte c = search needs
-
-mul-put-byte : tie.Need-mul-put-byte Inv-loop μ-loop
-mul-put-byte c = search needs
-
-add-put-byte : tie.Need-add-put-byte Inv-loop μ-loop
-add-put-byte c = search needs
-
-byte-requires-2 : tie.Need-byte-requires-2 Inv-loop μ-loop
-byte-requires-2 c κs = search needs
-
-put-byte-requires : tie.Need-put-byte-requires Inv-loop μ-loop
-put-byte-requires c κs = omega (arith, c .before .before .before .before .before .before .before .before .before .pre, c .before .before .before .before .before .loop .inv .1, c .before .before .before .before .before .loop .inv .2)
-
-add-behind : tie.Need-add-behind Inv-loop μ-loop
-add-behind c = search needs
-
-behind-requires : tie.Need-behind-requires Inv-loop μ-loop
-behind-requires c κs = omega (arith, c .before .before .before .before .before .before .before .before .before .before .before .before .pre, c .before .before .before .before .before .before .before .before .loop .inv .2)
-
-sub-left : tie.Need-sub-left Inv-loop μ-loop
-sub-left c = search needs
-
-loop-less : tie.Need-loop-less Inv-loop μ-loop
-loop-less c = search needs
+    let c5 = c .before .before .before .before .before in
+    let a = c5 .args in
+    let e : 1 + c .wide .result ≡ 1 + getD (a .text .now) 0 0 = ap (λ (k : ℕ). 1 + k) (c .wide .ensures .0 ∙ c .before .byte .ensures) in
+    (refl, λ R r t s. renaming-start (a .text .now) (a .names .now) r R (a .at) e t s)
 
 loop-again : tie.Need-loop-again Inv-loop μ-loop
 loop-again c =
-    let F = c .before .before .before .before .before .before .before .before .before .before .before .before .before .args .frames .now in
-    let N = c .before .before .before .before .before .before .before .before .before .before .before .before .before .args .numbers .now in
-    let e : c .before .before .before .before .byte2 .result ≡ getD N (getD F (c .before .before .before .before .before .before .before .before .before .loop .pos) 0) 0 = c .before .before .before .before .byte2 .ensures ∙ ap (λ (k : ℕ). getD N k 0) (c .before .before .before .before .before .before .wide .ensures .0 ∙ c .before .before .before .before .before .before .before .byte .ensures) in
-    (redone-more F N (c .before .before .before .before .before .before .before .before .before .loop .inv .0) (c .before .before .before .before .before .before .before .before .loop-test .taken) e (c .behind .ensures .0) (c .before .before .before .put-byte .ensures .0), omega (arith, c .behind .ensures .0, c .before .before .before .before .before .before .before .before .before .loop .inv .1), omega (arith, c .behind .ensures .1, c .before .before .before .before .before .before .before .before .before .loop .inv .2), search needs)
-
-same-length : tie.Need-same-length Inv-loop μ-loop
-same-length c = search needs
+    let c4 = c .before .before .before .before in
+    let c5 = c4 .before in
+    let c7 = c5 .before .before in
+    let c9 = c7 .before .before in
+    let c10 = c9 .before in
+    let c16 = c10 .before .before .before .before .before .before in
+    let a = c16 .args in
+    let T = a .text .now in
+    let N = a .names .now in
+    let pos = c10 .loop .pos in
+    let n : c5 .byte2 .result ≡ named N (getD T pos 0) = c5 .byte2 .ensures ∙ ap (named N) (c7 .wide2 .ensures .0) in
+    let e : c .wide3 .result ≡ getD T (pos + 1) 0 = c .wide3 .ensures .0 ∙ c .before .byte3 .ensures in
+    let next : pos + (2 + c .wide3 .result) ≡ pos + (2 + getD T (pos + 1) 0) = ap (λ (k : ℕ). pos + (2 + k)) e in
+    (search needs, λ R r t s. renaming-more T N r R (a .at) (c10 .loop .inv .1 R r t s) (c9 .loop-test .taken) n next (c4 .put-byte .ensures .0))
 
 returns : tie.Need-returns Inv-loop μ-loop
-returns c = redone-all (c .before .before .before .before .before .args .frames .now) (c .before .before .before .before .before .args .numbers .now) (c .before .loop .inv .0) (c .loop-test .left)
+returns c =
+    let c7 = c .before .before .before .before .before .before .before in
+    λ R r t s. renaming-all (c7 .args .text .now) (c7 .args .names .now) r R (c7 .args .at) (c .before .loop .inv .1 R r t s) (c .loop-test .left)
 
 pub put-numbers-spec : {M : Type 1} → statement M
 put-numbers-spec =
@@ -71,18 +55,22 @@ put-numbers-spec =
     (tie.spec
     Inv-loop
     μ-loop
+    (λ c κs. search needs)
+    (λ c κs. search needs)
+    (λ c. search needs)
     loop-holds
-    byte-requires
-    wide-requires
-    sub-put-byte
-    mul-put-byte
-    add-put-byte
-    byte-requires-2
-    put-byte-requires
-    add-behind
-    behind-requires
-    sub-left
-    loop-less
+    (λ c. search needs)
+    (λ c κs. search needs)
+    (λ c. search needs)
+    (λ c. search needs)
+    (λ c κs. search needs)
+    (λ c κs. search needs)
+    (λ c. search needs)
+    (λ c κs. search needs)
+    (λ c κs. search needs)
+    (λ c. search needs)
+    (λ c. search needs)
+    (λ c. search needs)
     loop-again
-    same-length
+    (λ c. search needs)
     returns)

@@ -1,0 +1,72 @@
+-- `put_hex` meets its contract: the digits of the bytes passed, and all have their places.
+use mathlib.Core.Path.{_≡_, refl}
+use Prim.Native.Nat.{_+_, _-_, _*_, _≤_}
+use native.Mathlib.Omega.{arith}
+use lib.ListN.{length, take}
+use Rattle.text.specs.Lines.{hexOf}
+use Rattle.digits.specs.Room.{Wrote}
+use Rattle.digits.proofs.Room.{wrote-none, wrote-then, wrote-as, hex-more, hex-all}
+use borrow.Author.Needs.{needs}
+use Rattle.digits.proofs.put_hex.Statement.{statement}
+use Rattle.digits.proofs.put_hex.Tie as tie
+
+abbrev Inv-loop : tie.InvT-loop
+Inv-loop bytes room₀ at i₀ end₀ room i end =
+    (i ≤ length bytes) × Wrote room₀ at (hexOf (take i bytes)) room end × (end ≡ at + 2 * i) × (length room ≡ length room₀)
+
+abbrev μ-loop : tie.MeasureT-loop
+μ-loop bytes room₀ at i₀ end₀ room i end = length bytes - i
+
+returns : tie.Need-returns Inv-loop μ-loop
+returns c = c .before .before .put-hex-across .ensures
+
+loop-holds : tie.Need-loop-holds Inv-loop μ-loop
+unfolding hexOf
+loop-holds c = (omega arith, wrote-none (c .before .before .before .args .room .now) (c .before .before .before .args .at), omega arith, refl)
+
+put-inside-requires : tie.Need-put-inside-requires Inv-loop μ-loop
+put-inside-requires c κs =
+    let c4 = c .before .before .before .before in
+    let c7 = c4 .before .before .before in
+    let l = c .before .before .before .loop in
+    let t = c .before .before .loop-test .taken in
+    (omega (arith, t, l .inv .2, l .inv .3, c4 .if1 .left), omega (arith, t, l .inv .2, c7 .pre))
+
+loop-again : tie.Need-loop-again Inv-loop μ-loop
+loop-again c =
+    let c5 = c .before .before .before .before .before in
+    let c6 = c5 .before in
+    let c10 = c6 .before .before .before .before in
+    let l = c6 .loop in
+    let t = c5 .loop-test .taken in (
+      omega (arith, t),
+      wrote-as (hex-more (c10 .args .bytes .now) (l .i) t) (wrote-then (l .inv .1) (c .before .before .put-inside .ensures .0)),
+      omega
+          (arith, c .before .before .put-inside .ensures .1, l .inv .2),
+      search needs,
+    )
+
+returns-2 : tie.Need-returns-2 Inv-loop μ-loop
+returns-2 c =
+    let c5 = c .before .before .before .before .before in
+    (wrote-as (hex-all (c5 .args .bytes .now) (c .before .loop .i) (c .loop-test .left)) (c .before .loop .inv .1), omega arith)
+
+pub put-hex-spec : {M : Type 1} → statement M
+put-hex-spec =
+    tie.close
+    (tie.spec
+    Inv-loop
+    μ-loop
+    (λ c. search needs)
+    (λ c. search needs)
+    (λ c κs. search needs)
+    (λ c. search needs)
+    returns
+    loop-holds
+    (λ c. search needs)
+    put-inside-requires
+    (λ c. search needs)
+    (λ c. search needs)
+    loop-again
+    (λ c. search needs)
+    returns-2)

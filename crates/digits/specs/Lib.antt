@@ -1,0 +1,2 @@
+-- Writing into a room that the caller lends.
+pub mod Room
