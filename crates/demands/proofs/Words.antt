@@ -1,5 +1,5 @@
 -- Demand 2, the word: it is given exactly when the published definition gives it within the limits, and refused exactly for the listed causes. Assumes nothing.
-use mathlib.Core.Path.{_≡_, refl, sym, _∙_}
+use mathlib.Core.Path.{_≡_, refl, sym, _∙_, ap₂}
 use mathlib.Core.List.{List}
 use mathlib.Core.Logic.{_⊎_, inl, inr, _↔_}
 use mathlib.Core.Option.{some}
@@ -86,9 +86,9 @@ module _ (text tree : List ℕ) (room : ℕ) where
           })
 
       go : (a : Reply Table) → readTable text ≡ a → WordRefused text tree room n p
-      go (refused m r) i =
-          let j = refused-injective {A = Word} m r n p (sym (answer-text text tree room m r i) ∙ e) in
-          text-wrong (rw (j .0, j .1) i)
+      go (refusal x) i =
+          let j = refused-injective {A = Word} (x .number) (x .place) n p (sym (answer-text text tree room (x .number) (x .place) i) ∙ e) in
+          text-wrong (i ∙ ap₂ (λ (m : ℕ) (r : ℕ). refused m r) (sym (j .0)) (sym (j .1)))
       go (given M) i = on-room M i (word-refused M tree room n p .0 (sym (answer-table text tree room M i) ∙ e))
 
   -- A cause is told.
