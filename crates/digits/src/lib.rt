@@ -98,7 +98,7 @@ pub fn put_hex(bytes: &[u8], room: &mut [u8], at: usize) -> usize
 // Writes a word behind its length byte.
 pub fn put_text(word: &[u8], room: &mut [u8], at: usize) -> usize
     requires { ⌜ (length (now word) < 256) × (at + 520 < 1000000000) ⌝ }
-    ensures { λ r. ⌜ Wrote (now (room .entry)) at (hexOf (textOf (now (word .entry)))) (now (room .exit)) r × (r ≤ at + 512) ⌝ }
+    ensures { λ r. ⌜ Wrote (now (room .entry)) at (hexOf (textOf (now (word .entry)))) (now (room .exit)) r × (r ≡ at + 2 + 2 * length (now (word .entry))) ⌝ }
 {
     let next = put_byte(room, at, narrow(word.len()));
     put_hex(word, room, next)

@@ -13,9 +13,11 @@ use Rattle.canon.proofs.lines.put_initial.Tie as tie
 
 put-requires : tie.Need-put-requires
 put-requires c κs =
-    let c8 = c .before .before .before .before .before .before .before .before in
+    let c5 = c .before .before .before .before .before in
+    let c8 = c5 .before .before .before in
     let c12 = c8 .before .before .before .before in
-    let c17 = c12 .before .before .before .before .before in
+    let c14 = c12 .before .before in
+    let c17 = c14 .before .before .before in
     let c22 = c17 .before .before .before .before .before in
     let c27 = c22 .before .before .before .before .before in
     omega (
@@ -26,6 +28,8 @@ put-requires c κs =
       c17 .put-byte2 .ensures .1,
       c22 .put-byte .ensures .1,
       c27 .pre .1,
+      c14 .word-before .ensures .0,
+      c5 .word-after .ensures .0,
     )
 
 returns : tie.Need-returns
@@ -47,6 +51,8 @@ returns c =
         c15 .put-text .ensures .1,
         c20 .put-byte2 .ensures .1,
         c25 .put-byte .ensures .1,
+        c17 .word-before .ensures .0,
+        c8 .word-after .ensures .0,
       ),
       λ M o.
           let first = wrote-as (ap (λ (u : List ℕ). hexOf (textOf u)) (c17 .word-before .ensures .1 M o)) (c15 .put-text .ensures .0) in
