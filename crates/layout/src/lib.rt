@@ -14,6 +14,9 @@ pub use counts::states;
 pub use counts::symbols;
 pub use counts::word_after;
 pub use counts::word_before;
+pub use full::kept_full;
+pub use full::rules_here;
+pub use full::symbol_full;
 pub use kept::child_in;
 pub use kept::first_in;
 pub use kept::kept_for;
@@ -22,6 +25,7 @@ pub use kept::kids_in;
 pub use kept::later_in;
 pub use kept::letters_in;
 pub use kept::number_in;
+pub use kids::kids_alike;
 pub use rule::Rules;
 pub use rule::kept_of;
 pub use rule::rules_of;
@@ -33,7 +37,9 @@ pub use spot::state_behind;
 pub use spot::word_at;
 
 mod counts;
+mod full;
 mod kept;
+mod kids;
 mod rule;
 mod spot;
 
