@@ -11,7 +11,8 @@ returns c =
     let b = c .first-of2 in (
       (b .ensures .0, a .ensures .0),
       λ F M o h.
-          range M (o .limited .made .rising) (c .before .before .before .args .q) (a .result) (b .result) (a .ensures .1 F M o (omega (arith, h))) (b .ensures .1 F M o (omega (arith, h))),
+          range M (o .limited .made .rising) (c .before .before .before .args .q) (a .result) (b .result) (a .ensures .1 F M o (omega (arith, h)))
+          (b .ensures .1 F M o (omega (arith, h))),
     )
 
 pub rules-here-spec : {M : Type 1} → statement M
