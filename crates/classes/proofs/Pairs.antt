@@ -9,9 +9,11 @@ use native.Mathlib.Decide.{decLt}
 use lib.ListN.{getD}
 use Rattle.machine.specs.Machine.{Child, Rule, Table, find}
 use Rattle.machine.specs.Twins.{Rests, Rules, Match}
+use Rattle.machine.proofs.Kept.{rules-map}
+use Rattle.rules.specs.Compared.{Any}
 use Rattle.words.specs.Told.{Told}
 use Rattle.words.proofs.Told.{told-map}
-use Rattle.classes.specs.Rounds.{Alike, Paired, Leads, Picked, Least}
+use Rattle.classes.specs.Rounds.{Alike, Shaped, Paired, Leads, Picked, Least}
 
 module _ (rep : List ℕ) where
   -- Every rest matches itself.
@@ -85,6 +87,12 @@ module _ (M : Table) (rep : List ℕ) where
     -- Where r stands for itself and is in one class with q, a test of their rows tells whether r leads q.
     pub told-leads : {z : Bool} (r : ℕ) → getD next r 0 ≡ r → Alike rep q r → Told (Match M M (Alike rep) q r) z → Told (Leads M rep next q r) z
     told-leads r o a t = told-map (λ h. record { own = o; pair = record { alike = a; rows = h } }) (λ h. h .pair .rows) t
+
+    -- Where all states are in one class, a test of their rows up to the children's states is one of their rows.
+    pub told-one : {z : Bool} (r : ℕ) → ((p s : ℕ) → Alike rep p s) → Told (Shaped M q r) z → Told (Match M M (Alike rep) q r) z
+    told-one r one t =
+        told-map (λ h f. rules-map Any (Alike rep) (λ p s k. one p s) (find (M .rows) q f) (find (M .rows) r f) (h f))
+        (λ h f. rules-map (Alike rep) Any (λ p s k. tt) (find (M .rows) q f) (find (M .rows) r f) (h f)) t
 
     -- No state before q leads it: q stands for its class.
     pub picked-self : ((p : ℕ) → p < q → Leads M rep next q p → ⊥) → Picked M rep next q q

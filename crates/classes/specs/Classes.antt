@@ -7,6 +7,7 @@ use lib.ListN.{length, getD}
 use Rattle.machine.specs.Machine.{Table}
 use Rattle.machine.specs.Same.{Same}
 use Rattle.machine.specs.Twins.{Twin}
+use Rattle.text.specs.Limits.{statesMost}
 
 -- States that every number of rounds of comparing rules finds alike: the same rules are there, with the same words in turn, and so on below.
 abbrev pub Twins : Table → ℕ → ℕ → Type 0
@@ -23,8 +24,8 @@ pub record Classes (M : Table) (rep : List ℕ) : Type 0 where
   pub same : (q r : ℕ) → q < M .states → r < M .states → (getD rep q 0 ≡ getD rep r 0) ↔ Same M M q r
   pub member : (q : ℕ) → q < M .states → Same M M q (getD rep q 0)
 
--- Whatever the bytes are: a number for each of 64 states, each at most the state, so below 64.
+-- Whatever the bytes are: a number for each state that a table may have, each at most the state, so below the most states.
 pub record Numbered (rep : List ℕ) : Type 0 where
-  pub long : length rep ≡ 64
+  pub long : length rep ≡ statesMost
   pub low : (q : ℕ) → getD rep q 0 ≤ q
-  pub below : (q : ℕ) → getD rep q 0 < 64
+  pub below : (q : ℕ) → getD rep q 0 < statesMost

@@ -1,60 +1,37 @@
 -- What a round does, and what its parts answer. Definitions only.
 use mathlib.Core.Path.{_≡_}
+use mathlib.Core.Bool.{Bool, true, false}
 use mathlib.Core.List.{List, [], _∷_}
-use Prim.Native.Nat.{ℕ, zero, suc, _+_, _-_, _/_, _%_, _<_, _≤_}
+use Prim.Native.Nat.{ℕ, _+_, _-_, _<_, _≤_}
 use lib.ListN.{length, getD}
-use Rattle.machine.specs.Machine.{Rule, Table}
-use Rattle.machine.specs.Twins.{Rests, Match}
-use Rattle.layout.specs.Layout.{Opened}
-use Rattle.layout.specs.Leaves.{wordAt, behindAt}
-
--- The bytes F and the entries I are the opened table M, which has this many symbols.
-pub record Meant (F I : List ℕ) (symbols : ℕ) (M : Table) : Type 0 where
-  pub opened : Opened F I M
-  pub counted : symbols ≡ length (M .arities)
+use Rattle.machine.specs.Machine.{Table}
+use Rattle.machine.specs.Twins.{Match}
+use Rattle.text.specs.Limits.{statesMost}
+use Rattle.layout.specs.Layout.{numbersSize}
+use Rattle.rules.specs.Compared.{Any}
 
 -- rep puts a and b into one class.
 abbrev pub Alike : List ℕ → ℕ → ℕ → Type 0
 Alike rep a b = getD rep a 0 ≡ getD rep b 0
 
--- The same of the states whose bytes stand at x and y.
-abbrev pub AlikeAt : List ℕ → List ℕ → ℕ → ℕ → Type 0
-AlikeAt F rep x y = Alike rep (getD F x 0) (getD F y 0)
-
--- Of so many children that stand at x and at y, the states are in one class and the words after them are equal, each in turn.
-unfoldable pub RestsAt : List ℕ → List ℕ → ℕ → ℕ → ℕ → Type 0
-RestsAt F rep zero x y = Unit {0}
-RestsAt F rep (suc k) x y =
-    AlikeAt F rep x y × (wordAt F (x + 1) ≡ wordAt F (y + 1)) × RestsAt F rep k (behindAt F (x + 1)) (behindAt F (y + 1))
-
--- The two rules have equal words in turn, and children in one class each.
-abbrev pub SameRule : List ℕ → Rule → Rule → Type 0
-SameRule rep a b = (a .first ≡ b .first) × Rests (Alike rep) (a .rest) (b .rest)
-
 -- The rows of q and r match up to their children's states: the same rules are there, with the same words in turn and as many children.
 abbrev pub Shaped : Table → ℕ → ℕ → Type 0
-Shaped M q r = Match M M (λ p s. Unit {0}) q r
+Shaped M q r = Match M M Any q r
 
 -- So do those of states in one class, of the first n: what the first round leaves, and every round keeps.
 abbrev pub Shapes : Table → ℕ → List ℕ → Type 0
 Shapes M n rep = (q r : ℕ) → q < n → r < n → Alike rep q r → Shaped M q r
 
--- The sizes that let the later rounds read with no test: at most 64 symbols, an entry for each of 64 states and symbols, a class for each of 64 states.
-pub record Sized (symbols : ℕ) (I rep : List ℕ) : Type 0 where
-  pub few : symbols ≤ 64
-  pub entries : length I ≡ 4096
-  pub states : length rep ≡ 64
+-- The sizes that let the rounds read with no test: numbers as many as an opened table's, a class for each state in the old round and in the new.
+pub record Sized (I rep next : List ℕ) : Type 0 where
+  pub numbers : length I ≡ numbersSize
+  pub old : length rep ≡ statesMost
+  pub new : length next ≡ statesMost
 
--- The states in the three lowest places, of six bits each, are in one class, each in turn.
-pub record LaterAlike (rep : List ℕ) (x y : ℕ) : Type 0 where
-  pub last : Alike rep (x % 64) (y % 64)
-  pub second-last : Alike rep (x / 64 % 64) (y / 64 % 64)
-  pub third-last : Alike rep (x / 4096 % 64) (y / 4096 % 64)
-
--- The children's states in two entries of the index are in one class, each in turn: the first child's stands from bit 22 on, the others' from bit 36 on.
-pub record KidsAlike (rep : List ℕ) (x y : ℕ) : Type 0 where
-  pub first : Alike rep (x / 4194304 % 64) (y / 4194304 % 64)
-  pub later : LaterAlike rep (x / 68719476736) (y / 68719476736)
+-- What holds of the classes where a round begins: before the first all states are in one; later, states of one have rows that match up to their children.
+pub record Begun (first : Bool) (M : Table) (n : ℕ) (rep : List ℕ) : Type 0 where
+  pub one : first ≡ true → (q r : ℕ) → Alike rep q r
+  pub shapes : first ≡ false → Shapes M n rep
 
 -- A round leaves q and r in one class: they are in one, and their rows match up to the classes.
 pub record Paired (M : Table) (rep : List ℕ) (q r : ℕ) : Type 0 where
@@ -88,10 +65,10 @@ Raised n rep next = (q : ℕ) → q < n → (getD rep q 0 ≤ getD next q 0) × 
 abbrev pub Rounded : Table → ℕ → List ℕ → List ℕ → Type 0
 Rounded M n rep next = (q : ℕ) → q < n → Least (Paired M rep q) (getD next q 0)
 
--- How far the numbers are below 64, all told.
+-- How far the numbers are below the most states, all told.
 unfoldable pub slack : List ℕ → ℕ
 slack [] = 0
-slack (x ∷ m) = 64 - x + slack m
+slack (x ∷ m) = statesMost - x + slack m
 
 -- A store of v at q, which changed k entries: 0 or 1.
 pub record Put (m : List ℕ) (q v : ℕ) (m′ : List ℕ) (k : ℕ) : Type 0 where

@@ -11,3 +11,4 @@ pub mod Growing
 pub mod Ranges
 pub mod Spots
 pub mod Whole
+pub mod Children

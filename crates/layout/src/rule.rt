@@ -52,7 +52,7 @@ pub fn spot_of(numbers: &[u64], i: usize) -> usize
 }
 
 // The number of the first rule of state q, at most 512.
-fn first_of(numbers: &[u64], q: usize) -> usize
+pub fn first_of(numbers: &[u64], q: usize) -> usize
     requires { ⌜ q ≤ statesMost ⌝ }
     ensures { λ n. ⌜ n ≤ rowsMost ⌝ }
     ensures { λ n. ⌜ ((F : List ℕ) (M : Table) → Opened F (now (numbers .entry)) M → q ≤ M .states → n ≡ rowsBefore q (M .rows)) ⌝ }

@@ -1,15 +1,16 @@
 -- `adopt` meets its contract: entry after entry is taken over, and only raised.
 use mathlib.Core.Path.{subst}
-use Prim.Native.Nat.{ℕ, _-_, _≤_}
+use Prim.Native.Nat.{ℕ, _*_, _-_, _≤_}
 use native.Mathlib.Omega.{arith}
 use borrow.Author.Needs.{needs}
+use Rattle.text.specs.Limits.{statesMost}
 use Rattle.classes.specs.Rounds.{slack, Adopted}
 use Rattle.classes.proofs.Slack.{slack-most, adopted-none, adopted-more}
 use Rattle.classes.proofs.adopt.Statement.{statement}
 use Rattle.classes.proofs.adopt.Tie as tie
 
 abbrev Inv-loop : tie.InvT-loop
-Inv-loop n next rep₀ k₀ q₀ rep k q = (q ≤ n) × (slack rep₀ ≤ 4096) × Adopted q next rep₀ rep k
+Inv-loop n next rep₀ k₀ q₀ rep k q = (q ≤ n) × (slack rep₀ ≤ statesMost * statesMost) × Adopted q next rep₀ rep k
 
 abbrev μ-loop : tie.MeasureT-loop
 μ-loop n next rep₀ k₀ q₀ rep k q = n - q
@@ -22,9 +23,10 @@ shared-slice-read-put c = search needs
 
 put-requires : tie.Need-put-requires Inv-loop μ-loop
 put-requires c κs =
+    let c6 = c .before .before .before .before .before .before in
     let l = c .before .before .before .loop in
-    let w = c .before .before .before .before .before .before .pre .3 (l .q) (c .before .before .loop-test .taken) in
-    (omega (arith, l .inv .2 .long, c .before .before .before .before .before .before .pre .2), omega (arith, l .inv .2 .rest (l .q) (omega arith), w .0), omega (arith, w .1, c .before .before .before .before .before .before .pre .0))
+    let w = c6 .pre .3 (l .q) (c .before .before .loop-test .taken) in
+    (omega (arith, l .inv .2 .long, c6 .pre .2), omega (arith, l .inv .2 .rest (l .q) (omega arith), w .0), omega (arith, w .1, c6 .pre .0))
 
 add-k : tie.Need-add-k Inv-loop μ-loop
 add-k c = search needs
@@ -37,7 +39,8 @@ loop-less c = search needs
 
 loop-again : tie.Need-loop-again Inv-loop μ-loop
 loop-again c =
-    let l = c .before .before .before .before .before .before .loop in
+    let c6 = c .before .before .before .before .before .before in
+    let l = c6 .loop in
     (omega arith, l .inv .1, adopted-more (l .inv .2) (c .before .before .put .ensures))
 
 same-length : tie.Need-same-length Inv-loop μ-loop
@@ -45,7 +48,8 @@ same-length c = search needs
 
 returns : tie.Need-returns Inv-loop μ-loop
 returns c =
-    let a = c .before .before .before .before .args in
+    let c4 = c .before .before .before .before in
+    let a = c4 .args in
     let l = c .before .loop in
     subst (λ (m : ℕ). Adopted m (a .next .now) (a .rep .now) (l .rep) (l .k)) (omega arith) (l .inv .2)
 

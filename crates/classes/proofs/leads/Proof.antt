@@ -1,60 +1,57 @@
 -- `leads` meets its contract: r stands for itself in next, is in one class with q, and their rows match.
 use mathlib.Core.Path.{sym, _∙_}
 use mathlib.Core.Bool.{true≢false}
-use borrow.Author.Needs.{needs}
+use native.Mathlib.Omega.{arith}
 use Rattle.words.proofs.Told.{told-no}
-use Rattle.classes.proofs.Pairs.{told-leads}
+use Rattle.classes.proofs.Pairs.{told-leads, told-one}
+use borrow.Author.Needs.{needs}
 use Rattle.classes.proofs.leads.Statement.{statement}
 use Rattle.classes.proofs.leads.Tie as tie
 
-shared-slice-read-wide : tie.Need-shared-slice-read-wide
-shared-slice-read-wide c = search needs
-
-wide-requires : tie.Need-wide-requires
-wide-requires c κs = search needs
-
 returns : tie.Need-returns
-returns c = (λ e. absurd (true≢false (sym e)), λ M m s. told-no (λ h. c .if1 .taken (c .before .wide .ensures .0 ∙ h .own)))
-
-shared-slice-read-if2 : tie.Need-shared-slice-read-if2
-shared-slice-read-if2 c = search needs
-
-shared-slice-read-if2-2 : tie.Need-shared-slice-read-if2-2
-shared-slice-read-if2-2 c = search needs
+returns c = (λ e. absurd (true≢false (sym e)), λ M n o A d l m b. told-no (λ h. c .if1 .taken (c .before .wide .ensures .0 ∙ h .own)))
 
 returns-2 : tie.Need-returns-2
-returns-2 c = (λ e. absurd (true≢false (sym e)), λ M m s. told-no (λ h. c .if2 .taken (h .pair .alike)))
-
-same-rows-requires : tie.Need-same-rows-requires
-same-rows-requires c κs = search needs
+returns-2 c = (λ e. absurd (true≢false (sym e)), λ M n o A d l m b. told-no (λ h. c .if2 .taken (h .pair .alike)))
 
 returns-3 : tie.Need-returns-3
 returns-3 c =
-    let a = c .before .before .before .before .before .before .before .before .before .before .before .before .args in
-    (λ e. c .before .before .if2 .left, λ M m s. told-leads M (a .rep .now) (a .next .now) (a .q) (a .r) (sym (c .before .before .before .before .before .before .wide .ensures .0) ∙ c .before .before .before .before .before .if1 .left) (c .before .before .if2 .left) (c .same-rows .ensures M m))
-
-same-children-requires : tie.Need-same-children-requires
-same-children-requires c κs = search needs
+    let c5 = c .before .before .before .before .before in
+    let c6 = c5 .before in
+    let c12 = c6 .before .before .before .before .before .before in
+    let a = c12 .args in
+    let own = sym (c6 .wide .ensures .0) ∙ c5 .if1 .left in (
+      λ e. c .before .before .if2 .left,
+      λ M n o A d l m b.
+          told-leads M (a .rep .now) (a .next .now) (a .q) (a .r) own (c .before .before .if2 .left)
+          (told-one M (a .rep .now) (a .next .now) (a .q) (a .r) (b .one (c .before .if3 .taken)) (c .same-shapes .ensures M M o o A (omega (arith, m, d)))),
+    )
 
 returns-4 : tie.Need-returns-4
 returns-4 c =
-    let a = c .before .before .before .before .before .before .before .before .before .before .before .before .args in (
+    let c5 = c .before .before .before .before .before in
+    let c6 = c5 .before in
+    let c12 = c6 .before .before .before .before .before .before in
+    let a = c12 .args in
+    let own = sym (c6 .wide .ensures .0) ∙ c5 .if1 .left in (
       λ e. c .before .before .if2 .left,
-      λ M m s. told-leads M (a .rep .now) (a .next .now) (a .q) (a .r) (sym (c .before .before .before .before .before .before .wide .ensures .0) ∙ c .before .before .before .before .before .if1 .left) (c .before .before .if2 .left)
-          (c .same-children .ensures (a .frames .now) M m (s (c .before .if3 .left) (c .before .before .if2 .left))),
+      λ M n o A d l m b.
+          told-leads M (a .rep .now) (a .next .now) (a .q) (a .r) own (c .before .before .if2 .left)
+          (c .same-children .ensures (a .frames .now) (a .frames .now) M M o o A (omega (arith, m, d))
+          (b .shapes (c .before .if3 .left) (a .q) (a .r) l m (c .before .before .if2 .left))),
     )
 
 pub leads-spec : {M : Type 1} → statement M
 leads-spec =
     tie.close
     (tie.spec
-    shared-slice-read-wide
-    wide-requires
+    (λ c. search needs)
+    (λ c κs. search needs)
     returns
-    shared-slice-read-if2
-    shared-slice-read-if2-2
+    (λ c. search needs)
+    (λ c. search needs)
     returns-2
-    same-rows-requires
+    (λ c κs. search needs)
     returns-3
-    same-children-requires
+    (λ c κs. search needs)
     returns-4)

@@ -1,54 +1,33 @@
--- `part` meets its contract: an opened table has an index of full size, and within its limits the counts are not clamped.
+-- `part` meets its contract: an opened table has numbers of full size, which tell how many states there are.
 use mathlib.Core.Path.{_∙_}
 use native.Mathlib.Omega.{arith}
-use borrow.Author.Needs.{needs}
 use Rattle.classes.proofs.Slack.{numbered}
+use borrow.Author.Needs.{needs}
 use Rattle.classes.proofs.part.Statement.{statement}
 use Rattle.classes.proofs.part.Tie as tie
 
-clear-requires : tie.Need-clear-requires
-clear-requires c κs = search needs
-
-same-length : tie.Need-same-length
-same-length c = search needs
-
 returns : tie.Need-returns
 returns c =
+    let c8 = c .before .before .before .before .before .before .before .before in
     let z = c .before .before .before .clear in
-    let long = z .kept .0 ∙ c .before .before .before .before .before .before .before .before .pre in
-    (numbered (z .last .0) long (λ q. omega (arith, z .ensures q)), λ M o x y. absurd (c .if1 .taken (o .entries)))
-
-at-most-requires : tie.Need-at-most-requires
-at-most-requires c κs = search needs
-
-at-most-requires-2 : tie.Need-at-most-requires-2
-at-most-requires-2 c κs = search needs
-
-rounds-requires : tie.Need-rounds-requires
-rounds-requires c κs = search needs
-
-same-length-2 : tie.Need-same-length-2
-same-length-2 c = search needs
+    let long = z .kept .0 ∙ c8 .pre in
+    (numbered (z .last .0) long (λ q. omega (arith, z .ensures q)), λ M o. absurd (c .if1 .taken (o .numbers)))
 
 returns-2 : tie.Need-returns-2
 returns-2 c =
+    let c4 = c .before .before .before .before in
+    let c13 = c4 .before .before .before .before .before .before .before .before .before in
     let h = c .before .before .rounds .ensures in
-    let a = c .before .before .before .before .before .at-most .ensures in
-    let b = c .before .before .before .before .at-most2 .ensures in (
-      h .0,
-      λ M o x y.
-          h .1 M (record { opened = o; counted = a .1 (omega (arith, o .limited .symbols)) ∙ x }) (b .1 (omega (arith, o .limited .states)) ∙ y),
-    )
+    (h .0, λ M o. h .1 M o (c4 .states .ensures .1 (c13 .args .frames .now) M o))
 
 pub part-spec : {M : Type 1} → statement M
 part-spec =
     tie.close
     (tie.spec
-    clear-requires
-    same-length
+    (λ c κs. search needs)
+    (λ c. search needs)
     returns
-    at-most-requires
-    at-most-requires-2
-    rounds-requires
-    same-length-2
+    (λ c κs. search needs)
+    (λ c κs. search needs)
+    (λ c. search needs)
     returns-2)

@@ -1,63 +1,78 @@
 -- `pick` meets its contract: no state passed leads q.
-use mathlib.Core.Path.{_≡_, refl}
-use mathlib.Core.Bool.{false}
+use mathlib.Core.Path.{_≡_, refl, sym, ap, _∙_}
 use Prim.Native.Nat.{ℕ, _-_, _<_, _≤_}
 use native.Mathlib.Omega.{arith}
-use borrow.Author.Needs.{needs}
 use borrow.Author.Count.{below-more}
 use lib.ListN.{getD}
 use Rattle.machine.specs.Machine.{Table}
-use Rattle.classes.specs.Rounds.{Meant, Alike, Shaped, Leads}
+use Rattle.layout.specs.Layout.{Opened}
+use Rattle.classes.specs.Rounds.{Begun, Leads}
 use Rattle.classes.proofs.Pairs.{picked-self, picked-first}
+use borrow.Author.Needs.{needs}
 use Rattle.classes.proofs.pick.Statement.{statement}
 use Rattle.classes.proofs.pick.Tie as tie
 
 abbrev Inv-loop : tie.InvT-loop
-Inv-loop first frames index symbols rep next q r₀ r =
-    (r ≤ q) × ((M : Table) → Meant frames index symbols M → (first ≡ false → (p : ℕ) → p < q → Alike rep q p → Shaped M q p) → (p : ℕ) → p < r → Leads M rep next q p → ⊥)
+Inv-loop first frames numbers rep next q r₀ mine r =
+    (r ≤ q) × ((M : Table) (n : ℕ) → Opened frames numbers M → n ≡ M .states → q < n → Begun first M n rep → (p : ℕ) → p < r → Leads M rep next q p → ⊥)
 
 abbrev μ-loop : tie.MeasureT-loop
-μ-loop first frames index symbols rep next q r₀ r = q - r
-
-shared-slice-read-wide : tie.Need-shared-slice-read-wide Inv-loop μ-loop
-shared-slice-read-wide c = search needs
-
-wide-requires : tie.Need-wide-requires Inv-loop μ-loop
-wide-requires c κs = search needs
-
-loop-holds : tie.Need-loop-holds Inv-loop μ-loop
-loop-holds c =
-    let a = c .before .before .before .before .before .before .args in
-    let low = c .before .before .before .before .before .before .pre .3 in
-    let first : c .wide .result ≡ getD (a .rep .now) (a .q) 0 = c .wide .ensures .0 in
-    (omega (arith, first, low (a .q)), λ M m s p h d. absurd (omega (arith, first, low p, d .pair .alike)))
-
-leads-requires : tie.Need-leads-requires Inv-loop μ-loop
-leads-requires c κs = search needs
+μ-loop first frames numbers rep next q r₀ mine r = q - r
 
 returns : tie.Need-returns Inv-loop μ-loop
 returns c =
-    let a = c .before .before .before .before .before .before .before .before .before .before .args in
-    let l = c .before .before .before .loop in
-    let d = c .before .leads .ensures in
-    ((omega arith, d .0 (c .if1 .taken)), λ M m s. picked-first M (a .rep .now) (a .next .now) (a .q) (l .r) (d .1 M m (λ e. s e (l .r) (c .before .before .loop-test .taken)) .if-true (c .if1 .taken)) (l .inv .1 M m s))
+    let c7 = c .before .before .before .before .before .before .before in
+    let a = c7 .args in
+    let low = c7 .pre .2 in
+    let first : a .q ≡ getD (a .rep .now) (a .q) 0 = sym (c .if1 .taken) ∙ c .before .wide .ensures .0 in
+    ((omega arith, refl), λ M n o d l b. picked-self M (a .rep .now) (a .next .now) (a .q) (λ p h k. omega (arith, first, low p, k .pair .alike, h)))
 
-add-r : tie.Need-add-r Inv-loop μ-loop
-add-r c = search needs
-
-loop-less : tie.Need-loop-less Inv-loop μ-loop
-loop-less c = search needs
-
-loop-again : tie.Need-loop-again Inv-loop μ-loop
-loop-again c =
-    let a = c .before .before .before .before .before .before .before .before .before .before .args in
-    let l = c .before .before .before .loop in
-    (omega arith, λ M m s. below-more (λ (p : ℕ). Leads M (a .rep .now) (a .next .now) (a .q) p → ⊥) (l .r) (l .inv .1 M m s) (c .before .leads .ensures .1 M m (λ e. s e (l .r) (c .before .before .loop-test .taken)) .if-false (c .if1 .left)))
+loop-holds : tie.Need-loop-holds Inv-loop μ-loop
+loop-holds c =
+    let c8 = c .before .before .before .before .before .before .before .before in
+    let a = c8 .args in
+    let low = c8 .pre .2 in
+    let first : c .before .before .wide .result ≡ getD (a .rep .now) (a .q) 0 = c .before .before .wide .ensures .0 in
+    (omega (arith, first, low (a .q)), λ M n o d l b p h k. omega (arith, first, low p, k .pair .alike, h))
 
 returns-2 : tie.Need-returns-2 Inv-loop μ-loop
 returns-2 c =
-    let a = c .before .before .before .before .before .before .before .before .args in
-    ((omega arith, refl), λ M m s. picked-self M (a .rep .now) (a .next .now) (a .q) (λ p h. c .before .loop .inv .1 M m s p (omega arith)))
+    let c4 = c .before .before .before .before in
+    let c12 = c4 .before .before .before .before .before .before .before .before in
+    let a = c12 .args in
+    let l = c .before .before .before .loop in
+    let d = c .before .leads .ensures in
+    let before = c .before .before .loop-test .taken in (
+      (omega arith, d .0 (c .if2 .taken)),
+      λ M n o e h b.
+          picked-first M (a .rep .now) (a .next .now) (a .q) (l .r)
+          (d .1 M n o (c4 .rules-here .ensures .1 (a .frames .now) M o (omega (arith, e, h))) e h (omega (arith, h, before)) b .if-true (c .if2 .taken))
+          (l .inv .1 M n o e h b),
+    )
+
+loop-again : tie.Need-loop-again Inv-loop μ-loop
+loop-again c =
+    let c4 = c .before .before .before .before in
+    let c12 = c4 .before .before .before .before .before .before .before .before in
+    let a = c12 .args in
+    let l = c .before .before .before .loop in
+    let d = c .before .leads .ensures in
+    let before = c .before .before .loop-test .taken in (
+      omega arith,
+      λ M n o e h b.
+          below-more (λ (p : ℕ). Leads M (a .rep .now) (a .next .now) (a .q) p → ⊥) (l .r) (l .inv .1 M n o e h b)
+          (d .1 M n o (c4 .rules-here .ensures .1 (a .frames .now) M o (omega (arith, e, h))) e h (omega (arith, h, before)) b .if-false (c .if2 .left)),
+    )
+
+returns-3 : tie.Need-returns-3 Inv-loop μ-loop
+returns-3 c =
+    let c10 = c .before .before .before .before .before .before .before .before .before .before in
+    let a = c10 .args in
+    let l = c .before .loop in (
+      (omega arith, refl),
+      λ M n o e h b.
+          picked-self M (a .rep .now) (a .next .now) (a .q) (λ p k. l .inv .1 M n o e h b p (omega (arith, k, c .loop-test .left))),
+    )
 
 pub pick-spec : {M : Type 1} → statement M
 pick-spec =
@@ -65,12 +80,14 @@ pick-spec =
     (tie.spec
     Inv-loop
     μ-loop
-    shared-slice-read-wide
-    wide-requires
-    loop-holds
-    leads-requires
+    (λ c. search needs)
+    (λ c κs. search needs)
     returns
-    add-r
-    loop-less
+    (λ c κs. search needs)
+    loop-holds
+    (λ c κs. search needs)
+    returns-2
+    (λ c. search needs)
+    (λ c. search needs)
     loop-again
-    returns-2)
+    returns-3)

@@ -1,0 +1,2 @@
+-- What comparing the rules of two opened tables answers.
+pub mod Compared

@@ -1,0 +1,2 @@
+-- Laws of symbol lists: where they part.
+pub mod Lists

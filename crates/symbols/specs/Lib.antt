@@ -1,0 +1,2 @@
+-- What comparing two symbol lists answers.
+pub mod Parting
