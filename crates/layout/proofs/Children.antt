@@ -1,6 +1,5 @@
 -- Children compared by their states: each child of one rule with the child of the same number of the other.
 use mathlib.Core.Path.{_≡_, sym, ap, _∙_}
-use mathlib.Core.Bool.{Bool}
 use mathlib.Core.List.{List, [], _∷_}
 use Prim.Native.Nat.{ℕ, zero, suc, _-_, _/_, _%_, _<_}
 use native.Mathlib.Omega.{arith}

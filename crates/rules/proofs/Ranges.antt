@@ -13,7 +13,7 @@ use Rattle.words.specs.Told.{Told}
 use Rattle.machine.specs.Machine.{Rule, Row, Table, Before, Rising, find}
 use Rattle.machine.specs.Twins.{Rules, Match}
 use Rattle.machine.proofs.Find.{every-at, index-row, rising-first, find-index, find-none}
-use Rattle.layout.specs.Leaves.{RowAt, RulesOf}
+use Rattle.layout.specs.Leaves.{RulesOf}
 use Rattle.rules.specs.Compared.{Any, RowOf}
 use Rattle.rules.proofs.Found.{there-too, here-too, row-found}
 

@@ -2,15 +2,14 @@
 ghost use mathlib.Core.Path.{_≡_};
 ghost use mathlib.Core.List.{List};
 ghost use mathlib.Core.Option.{some};
-ghost use Prim.Native.Nat.{ℕ, _<_};
+ghost use Prim.Native.Nat.{_<_};
 ghost use lib.ListN.{length};
 ghost use Rattle.words.specs.Told.{Told};
 ghost use Rattle.words.specs.Word.{Word};
 ghost use Rattle.machine.specs.Machine.{Child, Row, Table};
 ghost use Rattle.machine.specs.Twins.{Rests, Rules};
-ghost use Rattle.text.specs.Limits.{rowsMost};
-ghost use Rattle.layout.specs.Layout.{framesSize, Opened};
-ghost use Rattle.layout.specs.Leaves.{RowAt, Spot};
+ghost use Rattle.layout.specs.Layout.{framesSize};
+ghost use Rattle.layout.specs.Leaves.{Spot};
 ghost use Rattle.rules.specs.Compared.{Any, RowIn};
 
 // Whether two words are equal.

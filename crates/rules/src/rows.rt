@@ -1,13 +1,11 @@
 // Comparing the rows of two states: those of one are gone through, and the other's rule for the same symbol is looked up.
-ghost use mathlib.Core.Path.{_≡_};
 ghost use mathlib.Core.List.{List};
 ghost use Prim.Native.Nat.{ℕ, _<_, _≤_};
-ghost use lib.ListN.{length};
 ghost use Rattle.words.specs.Told.{Told};
 ghost use Rattle.machine.specs.Machine.{Row, Table, find};
 ghost use Rattle.machine.specs.Twins.{Match};
 ghost use Rattle.machine.specs.Twins as twins;
-ghost use Rattle.text.specs.Limits.{statesMost, rowsMost};
+ghost use Rattle.text.specs.Limits.{rowsMost};
 ghost use Rattle.layout.specs.Layout.{Opened};
 ghost use Rattle.layout.specs.Leaves.{RulesOf};
 ghost use Rattle.layout.specs.Kids.{Alike};

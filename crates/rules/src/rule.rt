@@ -1,11 +1,9 @@
 // Comparing two rules by their numbers.
-ghost use mathlib.Core.Path.{_≡_};
 ghost use mathlib.Core.List.{List};
 ghost use Prim.Native.Nat.{ℕ, _<_};
-ghost use lib.ListN.{length};
 ghost use Rattle.words.specs.Told.{Told};
 ghost use Rattle.machine.specs.Machine.{Row, Table};
-ghost use Rattle.text.specs.Limits.{statesMost, rowsMost};
+ghost use Rattle.text.specs.Limits.{rowsMost};
 ghost use Rattle.layout.specs.Layout.{Opened};
 ghost use Rattle.layout.specs.Leaves.{RowAt};
 ghost use Rattle.layout.specs.Kids.{Alike, Kids};
