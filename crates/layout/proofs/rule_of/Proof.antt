@@ -15,7 +15,7 @@ kept-for-requires : tie.Need-kept-for-requires
 kept-for-requires c κs = search needs
 
 returns : tie.Need-returns
-returns c = 
+returns c =
     (λ F M o. subst (λ (m : Option Rule). LookedUp F m Missing) (sym (c .before .kept-for .ensures F M o .none (c .if1 .taken))) tt, tt)
 
 number-in-requires : tie.Need-number-in-requires
@@ -31,8 +31,8 @@ letters-in-requires : tie.Need-letters-in-requires
 letters-in-requires c κs = search needs
 
 returns-2 : tie.Need-returns-2
-returns-2 c = 
-    (λ F M o.
+returns-2 c = (
+  λ F M o.
       let t = c .before .before .before .before .before .kept-for .ensures F M o .some (c .before .before .before .before .if1 .left) in
       let row = rowOf (c .before .before .before .before .before .before .before .args .q) (c .before .before .before .before .before .before .before .args .f) (t .rule) in
       let place : Place = record { at = c .before .before .spot-of .result; kids = c .before .kids-in .result; letters = c .letters-in .result } in
@@ -43,7 +43,8 @@ returns-2 c =
         kids = c .before .kids-in .ensures .1 (t .number) (t .rule) (t .holds);
         letters = c .letters-in .ensures .1 (t .number) (t .rule) (t .holds);
       }),
-    (c .before .before .spot-of .ensures .0, c .before .kids-in .ensures .0, c .letters-in .ensures .0))
+  (c .before .before .spot-of .ensures .0, c .before .kids-in .ensures .0, c .letters-in .ensures .0),
+)
 
 pub rule-of-spec : {M : Type 1} → statement M
 rule-of-spec =

@@ -29,7 +29,7 @@ later-in-requires : tie.Need-later-in-requires
 later-in-requires c κs = search needs
 
 returns-3 : tie.Need-returns-3
-returns-3 c = 
+returns-3 c =
     let j = c .before .before .before .before .args .j in
     let one-less : suc (j - 1) ≡ j = omega arith in
     (c .later-in .ensures .0, λ i r h l. c .later-in .ensures .1 i r (j - 1) h (omega (arith, c .before .before .kids-in .ensures .1 i r h, l, one-less)) ∙ ap (λ (k : ℕ). stateNo (r .rest) k) one-less)

@@ -23,17 +23,17 @@ number-requires-2 : tie.Need-number-requires-2
 number-requires-2 c κs = search needs
 
 returns : tie.Need-returns
-returns c = 
+returns c =
     λ F M r o e.
-      let I = c .before .before .before .args .numbers .now in
-      let k : c .before .number .result / 131072 % 4096 ≡ r .state * 64 + r .symbol = omega (arith, c .before .number .ensures, listed-key o (c .before .before .before .args .i) r e) in
-      record {
-        is =
-            c .number2 .ensures ∙ ap (λ (x : ℕ). getD I (592 + x) 0) k ∙ o .grid (r .state) (r .symbol) (row-fits o (c .before .before .before .args .i) r e .state) (row-symbol-small o (c .before .before .before .args .i) r e)
-            ∙ entry-at (o .limited) (c .before .before .before .args .i) r e;
-        low = row-low (o .limited) (c .before .before .before .args .i) r e;
-        modest = row-modest (o .limited) (c .before .before .before .args .i) r e;
-      }
+    let I = c .before .before .before .args .numbers .now in
+    let k : c .before .number .result / 131072 % 4096 ≡ r .state * 64 + r .symbol = omega (arith, c .before .number .ensures, listed-key o (c .before .before .before .args .i) r e) in
+    record {
+      is =
+          c .number2 .ensures ∙ ap (λ (x : ℕ). getD I (592 + x) 0) k ∙ o .grid (r .state) (r .symbol) (row-fits o (c .before .before .before .args .i) r e .state) (row-symbol-small o (c .before .before .before .args .i) r e)
+          ∙ entry-at (o .limited) (c .before .before .before .args .i) r e;
+      low = row-low (o .limited) (c .before .before .before .args .i) r e;
+      modest = row-modest (o .limited) (c .before .before .before .args .i) r e;
+    }
 
 pub kept-of-spec : {M : Type 1} → statement M
 kept-of-spec =

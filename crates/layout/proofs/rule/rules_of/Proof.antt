@@ -21,11 +21,13 @@ first-of-requires-2 : tie.Need-first-of-requires-2
 first-of-requires-2 c κs = search needs
 
 returns-2 : tie.Need-returns-2
-returns-2 c = 
-    ((c .first-of2 .ensures .0, c .before .first-of .ensures .0), λ F M o.
+returns-2 c = (
+  (c .first-of2 .ensures .0, c .before .first-of .ensures .0),
+  λ F M o.
       let s = c .before .before .before .states .ensures .1 F M o in
       range M (o .limited .made .rising) (c .before .before .before .before .before .args .q) (c .before .first-of .result) (c .first-of2 .result)
-      (c .before .first-of .ensures .1 F M o (omega (arith, s, c .before .before .if1 .left))) (c .first-of2 .ensures .1 F M o (omega (arith, s, c .before .before .if1 .left))))
+      (c .before .first-of .ensures .1 F M o (omega (arith, s, c .before .before .if1 .left))) (c .first-of2 .ensures .1 F M o (omega (arith, s, c .before .before .if1 .left))),
+)
 
 pub rules-of-spec : {M : Type 1} → statement M
 rules-of-spec =

@@ -16,10 +16,12 @@ number-requires : tie.Need-number-requires
 number-requires c κs = search needs
 
 returns : tie.Need-returns
-returns c = 
-    (omega arith, λ F M r o e.
+returns c = (
+  omega arith,
+  λ F M r o e.
       let p : c .number .result % 16384 ≡ placeOf M (c .before .before .args .i) = omega (arith, c .number .ensures, listed-place o (c .before .before .args .i) r e) in
-      rule-spot F (c .number .result % 16384) (r .rule) (subst (λ (k : ℕ). RuleAt F k (r .rule)) (sym p) (row-spot o (c .before .before .args .i) r e)))
+      rule-spot F (c .number .result % 16384) (r .rule) (subst (λ (k : ℕ). RuleAt F k (r .rule)) (sym p) (row-spot o (c .before .before .args .i) r e)),
+)
 
 pub spot-of-spec : {M : Type 1} → statement M
 spot-of-spec = tie.close (tie.spec add-number number-requires returns)

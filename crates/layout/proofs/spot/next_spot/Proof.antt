@@ -15,12 +15,12 @@ add-s : tie.Need-add-s
 add-s c = search needs
 
 returns : tie.Need-returns
-returns c = 
+returns c =
     let F = c .before .before .before .args .frames .now in
     (c .if1 .taken, λ u x cs l s. subst (λ (k : ℕ). Spot F (x .after) cs (k + 1)) (sym (c .before .behind .ensures .0)) (spot-next F u x cs (c .before .before .before .args .p) s))
 
 returns-2 : tie.Need-returns-2
-returns-2 c = 
+returns-2 c =
     let F = c .before .before .before .args .frames .now in
     (omega arith, λ u x cs l s. absurd (omega (arith, spot-inside F u x cs (c .before .before .before .args .p) s, l, c .before .behind .ensures .0, c .if1 .left)))
 

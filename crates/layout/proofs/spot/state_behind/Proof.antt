@@ -18,9 +18,11 @@ wide-requires : tie.Need-wide-requires
 wide-requires c κs = search needs
 
 returns : tie.Need-returns
-returns c = 
-    (omega arith, λ u x cs s l.
-      omega (arith, c .wide .ensures .0, c .before .byte .ensures, ap (λ (k : ℕ). getD (c .before .before .before .before .args .frames .now) k 0) (c .before .before .behind .ensures .0), spot-state (c .before .before .before .before .args .frames .now) u x cs (c .before .before .before .before .args .p) s, l))
+returns c = (
+  omega arith,
+  λ u x cs s l.
+      omega (arith, c .wide .ensures .0, c .before .byte .ensures, ap (λ (k : ℕ). getD (c .before .before .before .before .args .frames .now) k 0) (c .before .before .behind .ensures .0), spot-state (c .before .before .before .before .args .frames .now) u x cs (c .before .before .before .before .args .p) s, l),
+)
 
 pub state-behind-spec : {M : Type 1} → statement M
 state-behind-spec = tie.close (tie.spec behind-requires byte-requires wide-requires returns)
