@@ -1,5 +1,4 @@
--- Laws of the public calls: the word by an opened table, bytes that are the same, where symbol lists part, and the comparison of two forms.
+-- Laws of the public calls: the word by an opened table, bytes that begin with the same, and the comparison of two judged texts.
 pub mod Worded
-pub mod Passing
-pub mod Symbols
+pub mod Fronts
 pub mod Comparing

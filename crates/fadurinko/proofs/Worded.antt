@@ -4,15 +4,13 @@ use mathlib.Core.List.{List}
 use Prim.Native.Nat.{ℕ}
 use lib.ListN.{length}
 use Rattle.words.specs.Word.{Word}
-use Rattle.words.specs.Reply.{Reply, given, refused, _then_}
+use Rattle.words.specs.declared.No.{No}
+use Rattle.words.specs.Reply.{Reply, given, refusal, _then_}
 use Rattle.machine.specs.Machine.{Table}
 use Rattle.text.specs.Reading.{readTable}
 use Rattle.promises.specs.Room.{into}
 use Rattle.promises.specs.Word.{wordOn, wordInto, wordAnswer}
 use Rattle.layout.specs.Layout.{Opened}
-use Rattle.layout.specs.Leaves.{headOf}
-use Rattle.layout.specs.declared.Head.{Head}
-use Rattle.layout.specs.declared.Refusal.{Refusal}
 use Rattle.table.specs.Opening.{Opens}
 use Rattle.table.specs.declared.Opening.{Opening}
 use Rattle.table.specs.declared.Opening.the-variants as opening
@@ -23,29 +21,28 @@ use Rattle.finder.proofs.Said.{refused-said}
 use Rattle.fadurinko.specs.Answers.{refusalOf}
 
 -- A reading that was refused, as opening says it.
-opens-no : (F I : List ℕ) (a : Reply Table) (q : Refusal) → Opens F I a (opening.Refused q) → a ≡ refused (q .number) (q .place)
-opens-no F I (given M) q h = absurd h
-opens-no F I (refused n p) q h = cc
+opens-no : (F I : List ℕ) (a : Reply Table) (x : No) → Opens F I a (opening.Refused x) → a ≡ refusal x
+opens-no F I (given M) x h = absurd h
+opens-no F I (refusal y) x h = ap refusal (sym h)
 
 -- A reading that was opened, as opening says it.
-opens-yes : (F I : List ℕ) (a : Reply Table) (head : Head) → Opens F I a (opening.Table head) → (M : Table) × (a ≡ given M) × (head ≡ headOf M) × Opened F I M
-opens-yes F I (given M) head h = (M, refl, h .0, h .1)
-opens-yes F I (refused n p) head h = absurd h
+opens-yes : (F I : List ℕ) (a : Reply Table) → Opens F I a opening.Table → (M : Table) × (a ≡ given M) × Opened F I M
+opens-yes F I (given M) h = (M, refl, h)
+opens-yes F I (refusal y) h = absurd h
 
 -- A text that is refused gives its refusal.
-pub text-answers : {r : WordAnswer} (F I text tree R : List ℕ) (o : Opening) (q : Refusal) → Opens F I (readTable text) o → o ≡ opening.Refused q → r ≡ refusalOf o
+pub text-answers : {r : WordAnswer} (F I text tree R : List ℕ) (o : Opening) (x : No) → Opens F I (readTable text) o → o ≡ opening.Refused x → r ≡ refusalOf o
     → Answers (wordAnswer text tree (length R)) R R r
 unfolding wordAnswer
-text-answers F I text tree R o q h e er =
-    let n = opens-no F I (readTable text) q (subst (λ (x : Opening). Opens F I (readTable text) x) e h) in
-    refused-said R (q .number) (q .place) (ap (λ (a : Reply Table). into (length R) (a then λ M. wordOn M tree)) n) (er ∙ ap refusalOf e)
+text-answers F I text tree R o x h e er =
+    let n = opens-no F I (readTable text) x (subst (λ (y : Opening). Opens F I (readTable text) y) e h) in
+    refused-said R (x .number) (x .place) (ap (λ (a : Reply Table). into (length R) (a then λ M. wordOn M tree)) n) (er ∙ ap refusalOf e)
 
 -- A text that is a table gives the word by the opened table.
-pub table-answers : {r : WordAnswer} (F I text tree R R′ : List ℕ) (o : Opening) (head : Head) → Opens F I (readTable text) o → o ≡ opening.Table head
-    → ((M : Table) → Opened F I M → head ≡ headOf M → Answers (wordInto M tree (length R)) R R′ r)
-    → Answers (wordAnswer text tree (length R)) R R′ r
+pub table-answers : {r : WordAnswer} (F I text tree R R′ : List ℕ) (o : Opening) → Opens F I (readTable text) o → o ≡ opening.Table
+    → ((M : Table) → Opened F I M → Answers (wordInto M tree (length R)) R R′ r) → Answers (wordAnswer text tree (length R)) R R′ r
 unfolding wordAnswer wordInto
-table-answers {r} F I text tree R R′ o head h e found =
-    let y = opens-yes F I (readTable text) head (subst (λ (x : Opening). Opens F I (readTable text) x) e h) in
+table-answers {r} F I text tree R R′ o h e found =
+    let y = opens-yes F I (readTable text) (subst (λ (z : Opening). Opens F I (readTable text) z) e h) in
     let s = ap (λ (a : Reply Table). into (length R) (a then λ M. wordOn M tree)) (y .1) in
-    subst⁻¹ (λ (a : Reply Word). Answers a R R′ r) s (found (y .0) (y .3) (y .2))
+    subst⁻¹ (λ (a : Reply Word). Answers a R R′ r) s (found (y .0) (y .2))

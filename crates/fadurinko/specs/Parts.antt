@@ -1,10 +1,8 @@
 -- What the parts of the comparison ask and answer. Definitions only.
 use mathlib.Core.Path.{_≡_}
 use mathlib.Core.List.{List, _++_}
-use Prim.Native.Nat.{ℕ, _+_, _*_, _<_, _≤_}
+use Prim.Native.Nat.{ℕ, _<_, _≤_}
 use lib.ListN.{length, getD}
-use Rattle.text.specs.Lines.{digitOf}
-use Rattle.text.specs.Writing.{AtMost}
 
 -- The bytes X begin with x, which has n bytes.
 pub record Front (X : List ℕ) (n : ℕ) (x : List ℕ) : Type 0 where
@@ -12,18 +10,12 @@ pub record Front (X : List ℕ) (n : ℕ) (x : List ℕ) : Type 0 where
   pub behind : List ℕ
   pub bytes : X ≡ x ++ behind
 
--- The bytes X begin with the lines of n symbols: five characters each, the fourth is the arity's digit.
-pub record Symbols (X : List ℕ) (n : ℕ) (arities : List ℕ) : Type 0 where
-  pub count : n ≡ length arities
-  pub small : AtMost 4 arities
-  pub digits : (i : ℕ) → i < length arities → getD X (3 + 5 * i) 0 ≡ digitOf (getD arities i 0)
-
 -- X and Y have the same byte at a.
 abbrev pub SameAt : List ℕ → List ℕ → ℕ → Type 0
 SameAt X Y a = getD X a 0 ≡ getD Y a 0
 
--- Of the n bytes at `from`, `from + step` and so on, the first r are the same in X and Y, and then one differs or there are no more.
-pub record AlikeFor (X Y : List ℕ) (from step n r : ℕ) : Type 0 where
+-- Of the first n bytes the first r are the same in X and Y, and then one differs or there are no more.
+pub record AlikeFor (X Y : List ℕ) (n r : ℕ) : Type 0 where
   pub most : r ≤ n
-  pub same : (i : ℕ) → i < r → SameAt X Y (from + step * i)
-  pub apart : r < n → SameAt X Y (from + step * r) → ⊥
+  pub same : (i : ℕ) → i < r → SameAt X Y i
+  pub apart : r < n → SameAt X Y r → ⊥

@@ -2,34 +2,33 @@
 // settles number, place, counts and every byte of the room.
 use finder::WordAnswer;
 use former::Formed;
-use former::Judged;
-use layout::Refusal;
+use symbols::Parted;
 use table::Opening;
+use verdict::Judgement;
+use words::No;
 ghost use mathlib.Core.Path.{_≡_};
 ghost use mathlib.Core.List.{List};
 ghost use Prim.Native.Nat.{ℕ, _≤_};
 ghost use lib.ListN.{length};
+ghost use Rattle.words.specs.Told.{Told};
+ghost use Rattle.machine.specs.Machine.{Table};
+ghost use Rattle.machine.specs.Earliest.{Earliest};
+ghost use Rattle.text.specs.Limits.{textMost};
 ghost use Rattle.promises.specs.Word.{wordAnswer};
 ghost use Rattle.promises.specs.Judgement.{JudgementAnswer};
-ghost use Rattle.promises.specs.Comparison as paper;
 ghost use Rattle.promises.specs.Comparison.{ComparisonAnswer};
+ghost use Rattle.layout.specs.Layout.{Opened};
+ghost use Rattle.verdict.specs.Judgement.{verdictOf};
 ghost use Rattle.finder.specs.Answer as word;
 ghost use Rattle.former.specs.Formed as form;
-ghost use Rattle.words.specs.Told.{Told};
-ghost use Rattle.fadurinko.specs.Answers.{comparisonOf, partingOf, refusalOf, aboutOf, apartOf};
-ghost use Rattle.fadurinko.specs.Parts.{Front, Symbols, AlikeFor};
+ghost use Rattle.fadurinko.specs.Answers.{comparisonOf, refusalOf, aboutOf, apartOf, SameForm};
+ghost use Rattle.fadurinko.specs.Parts.{Front, AlikeFor};
 
 // Same, different, or the refusal with the table that it is about: 1, 2, or 0 for number 19.
 pub enum Compared {
     Same,
     Different,
-    Refused { table: u8, refusal: Refusal },
-}
-
-// The first index where two symbol lists part.
-pub enum Parted {
-    At(usize),
-    Nowhere,
+    Refused { table: u8, refusal: No },
 }
 
 // The refusal of a text, handed on.
@@ -37,11 +36,11 @@ fn refused(opening: Opening) -> WordAnswer
     ensures { λ r. ⌜ r ≡ refusalOf opening ⌝ }
 {
     match opening {
-        Opening::Table(_) => WordAnswer::Refused(Refusal {
+        Opening::Table => WordAnswer::Refused(No {
             number: 0,
             place: 0,
         }),
-        Opening::Refused(refusal) => WordAnswer::Refused(refusal),
+        Opening::Refused(x) => WordAnswer::Refused(x),
     }
 }
 
@@ -50,19 +49,19 @@ fn refused(opening: Opening) -> WordAnswer
 pub fn word(text: &[u8], tree: &[u8], room: &mut [u8]) -> WordAnswer
     ensures { λ r. ⌜ word.Answers (wordAnswer (now (text .entry)) (now (tree .entry)) (length (now (room .entry)))) (now (room .entry)) (now (room .exit)) r ⌝ }
 {
-    let mut frames = [0u8; 16448];
-    let mut index = [0u64; 4096];
-    let opening = table::read(text, &mut frames, &mut index);
-    let Opening::Table(head) = opening else {
+    let mut frames = [0u8; layout::FRAMES];
+    let mut numbers = [0u64; layout::NUMBERS];
+    let opening = table::read(text, &mut frames, &mut numbers);
+    let Opening::Table = opening else {
         return refused(opening);
     };
-    let mut plan = [0u32; 32768];
-    swift::find(&frames, &index, head, tree, &mut plan, room)
+    let mut plan = [0u32; layout::TREE];
+    swift::find(&frames, &numbers, tree, &mut plan, room)
 }
 
 // The judgement of a table text.
-pub fn judge(text: &[u8]) -> Judged
-    ensures { λ r. ⌜ JudgementAnswer (now (text .entry)) (form.verdictOf r) ⌝ }
+pub fn judge(text: &[u8]) -> Judgement
+    ensures { λ r. ⌜ JudgementAnswer (now (text .entry)) (verdictOf r) ⌝ }
 {
     former::judge(text)
 }
@@ -74,22 +73,13 @@ pub fn form(text: &[u8], room: &mut [u8]) -> Formed
     former::form(text, room)
 }
 
-// The refusal of a text, handed on with the table that it is about.
-fn about(table: u8, formed: Formed) -> Compared
-    ensures { λ r. ⌜ r ≡ aboutOf table formed ⌝ }
+// The refusal of a judgement, with the table that it is about.
+fn about(table: u8, judgement: Judgement) -> Compared
+    ensures { λ r. ⌜ r ≡ aboutOf table judgement ⌝ }
 {
-    match formed {
-        Formed::Form {
-            length: _,
-            symbols: _,
-        } => Compared::Refused {
-            table,
-            refusal: Refusal {
-                number: 0,
-                place: 0,
-            },
-        },
-        Formed::Refused(refusal) => Compared::Refused { table, refusal },
+    match judgement {
+        Judgement::Earliest => Compared::Different,
+        Judgement::Late(refusal) => Compared::Refused { table, refusal },
     }
 }
 
@@ -97,90 +87,83 @@ fn about(table: u8, formed: Formed) -> Compared
 fn apart(parted: Parted) -> Compared
     ensures { λ r. ⌜ r ≡ apartOf parted ⌝ }
 {
-    let place = match parted {
-        Parted::At(i) => i,
-        Parted::Nowhere => 0,
-    };
-    Compared::Refused {
-        table: 0,
-        refusal: Refusal { number: 19, place },
+    match parted {
+        Parted::At(place) => Compared::Refused {
+            table: 0,
+            refusal: No { number: 19, place },
+        },
+        Parted::Nowhere => Compared::Different,
     }
 }
 
-// How many of the n bytes at `from`, `from + step` and so on are the same in both, up to the first
-// that differs.
-fn alike(first: &[u8], second: &[u8], from: usize, step: usize, n: usize) -> usize
-    requires { ⌜ (from ≤ 8) × (step ≤ 8) × (n ≤ 32768) ⌝ }
-    ensures { λ r. ⌜ AlikeFor (now (first .entry)) (now (second .entry)) from step n r ⌝ }
+// How many of the first n bytes are the same in both, up to the first that differs.
+fn alike(first: &[u8], second: &[u8], n: usize) -> usize
+    requires { ⌜ n ≤ textMost ⌝ }
+    ensures { λ r. ⌜ AlikeFor (now (first .entry)) (now (second .entry)) n r ⌝ }
 {
-    let mut at = from;
     let mut i: usize = 0;
     while i < n {
-        if layout::byte(first, at) != layout::byte(second, at) {
+        if layout::byte(first, i) != layout::byte(second, i) {
             return i;
         }
-        at += step;
         i += 1;
     }
     i
 }
 
-// The first index where the symbol lists of two forms part, read off the arities' digits in their
-// first lines.
-fn parting(first: &[u8], symbols: usize, second: &[u8], others: usize) -> Parted
-    requires { ⌜ (symbols ≤ 64) × (others ≤ 64) ⌝ }
-    ensures { λ r. ⌜ ((xs ys : List ℕ) → Symbols (now (first .entry)) symbols xs → Symbols (now (second .entry)) others ys
-        → partingOf r ≡ paper.parting xs ys) ⌝ }
-{
-    let both = if symbols < others { symbols } else { others };
-    let i = alike(first, second, 3, 5, both);
-    if i < symbols {
-        return Parted::At(i);
-    }
-    if i < others {
-        return Parted::At(i);
-    }
-    Parted::Nowhere
-}
-
 // Whether the first n bytes of one are the first m bytes of the other.
 fn same_bytes(first: &[u8], n: usize, second: &[u8], m: usize) -> bool
-    requires { ⌜ n ≤ 32768 ⌝ }
-    ensures { λ r. ⌜ ((x y : List ℕ) → Front (now (first .entry)) n x → Front (now (second .entry)) m y → Told (x ≡ y) r) ⌝ }
+    ensures { λ r. ⌜ ((x y : List ℕ) → Front (now (first .entry)) n x → Front (now (second .entry)) m y → n ≤ textMost → Told (x ≡ y) r) ⌝ }
 {
     if n != m {
         return false;
     }
-    alike(first, second, 0, 1, n) == n
+    if layout::TEXT < n {
+        return false;
+    }
+    alike(first, second, n) == n
+}
+
+// Whether two opened earliest tables have one form: their texts are written and compared.
+fn same_forms(frames: &[u8], numbers: &[u64], frames2: &[u8], numbers2: &[u64]) -> bool
+    ensures { λ r. ⌜ ((M N : Table) → Opened (now (frames .entry)) (now (numbers .entry)) M → Earliest M
+        → Opened (now (frames2 .entry)) (now (numbers2 .entry)) N → Earliest N → SameForm M N r) ⌝ }
+{
+    let mut one = [0u8; layout::TEXT];
+    let mut two = [0u8; layout::TEXT];
+    let a = former::form_opened(frames, numbers, &mut one);
+    let b = former::form_opened(frames2, numbers2, &mut two);
+    let Formed::Form(n) = a else {
+        return false;
+    };
+    let Formed::Form(m) = b else {
+        return false;
+    };
+    same_bytes(&one, n, &two, m)
 }
 
 // Compares two table texts: the first's refusals, the second's, then 19; else whether their forms agree.
 pub fn compare(first: &[u8], second: &[u8]) -> Compared
     ensures { λ r. ⌜ ComparisonAnswer (now (first .entry)) (now (second .entry)) (comparisonOf r) ⌝ }
 {
-    let mut one = [0u8; 32768];
-    let mut two = [0u8; 32768];
-    let a = former::form(first, &mut one);
-    let Formed::Form {
-        length: n,
-        symbols: s,
-    } = a
-    else {
+    let mut frames = [0u8; layout::FRAMES];
+    let mut numbers = [0u64; layout::NUMBERS];
+    let a = former::judge_into(first, &mut frames, &mut numbers);
+    let Judgement::Earliest = a else {
         return about(1, a);
     };
-    let b = former::form(second, &mut two);
-    let Formed::Form {
-        length: m,
-        symbols: t,
-    } = b
-    else {
+    let mut frames2 = [0u8; layout::FRAMES];
+    let mut numbers2 = [0u64; layout::NUMBERS];
+    let b = former::judge_into(second, &mut frames2, &mut numbers2);
+    let Judgement::Earliest = b else {
         return about(2, b);
     };
-    let parted = parting(&one, s, &two, t);
+    let same = same_forms(&frames, &numbers, &frames2, &numbers2);
+    let parted = symbols::symbols_part(&frames, &numbers, &frames2, &numbers2);
     let Parted::Nowhere = parted else {
         return apart(parted);
     };
-    if same_bytes(&one, n, &two, m) {
+    if same {
         Compared::Same
     } else {
         Compared::Different
