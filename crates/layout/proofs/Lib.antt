@@ -10,3 +10,4 @@ pub mod Means
 pub mod Growing
 pub mod Ranges
 pub mod Spots
+pub mod Putting

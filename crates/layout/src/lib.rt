@@ -7,6 +7,7 @@ ghost use lib.ListN.{length, getD};
 ghost use Rattle.machine.specs.Machine.{Table, find};
 ghost use Rattle.layout.specs.Layout.{Opened};
 ghost use Rattle.layout.specs.Leaves.{wordAt, behindAt, LookedUp, Tame, Sought};
+pub use copy::put_word;
 pub use counts::arity;
 pub use counts::rules;
 pub use counts::start;
@@ -32,6 +33,7 @@ pub use spot::next_spot;
 pub use spot::state_behind;
 pub use spot::word_at;
 
+mod copy;
 mod counts;
 mod kept;
 mod rule;

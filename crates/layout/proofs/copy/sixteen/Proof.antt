@@ -1,13 +1,13 @@
--- `sixteen` reads 16 bytes: the first i of the piece are those of the frames. Assumes nothing.
+-- `sixteen` reads 16 bytes: the first i of the piece are those of the frames.
 use mathlib.Core.Path.{_≡_, refl, sym, _∙_}
 use Prim.Native.Nat.{_+_, _-_, _≤_}
 use native.Mathlib.Omega.{arith}
 use borrow.Author.Needs.{needs}
 use lib.ListN.{length, take, drop, length-set}
 use lib.Seq.{take-all}
-use Rattle.pen.proofs.Room.{piece-grows}
-use Rattle.pen.proofs.sixteen.Statement.{statement}
-use Rattle.pen.proofs.sixteen.Tie as tie
+use Rattle.layout.proofs.Putting.{piece-grows}
+use Rattle.layout.proofs.copy.sixteen.Statement.{statement}
+use Rattle.layout.proofs.copy.sixteen.Tie as tie
 
 abbrev Inv-loop : tie.InvT-loop
 Inv-loop frames from piece₀ i₀ piece i = (i ≤ 16) × (from + 16 ≤ length frames → take i piece ≡ take i (drop from frames)) × (length piece ≡ 16)

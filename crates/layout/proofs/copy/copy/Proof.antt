@@ -1,4 +1,4 @@
--- `copy` copies n bytes: after i bytes the room is the one at entry with the first i of them pasted over it. Assumes nothing.
+-- `copy` copies n bytes: after i bytes the room is the one at entry with the first i of them pasted over it.
 use mathlib.Core.Path.{_≡_, refl, sym, ap, _∙_}
 use mathlib.Core.List.{List}
 use Prim.Native.Nat.{ℕ, _+_, _-_, _<_, _≤_}
@@ -7,8 +7,8 @@ use native.Mathlib.Omega.{arith}
 use borrow.Author.Needs.{needs}
 use lib.ListN.{length, drop, set, getD, length-set, length-drop}
 use lib.Seq.{paste, paste-zero, paste-suc, getD-drop}
-use Rattle.pen.proofs.copy.Statement.{statement}
-use Rattle.pen.proofs.copy.Tie as tie
+use Rattle.layout.proofs.copy.copy.Statement.{statement}
+use Rattle.layout.proofs.copy.copy.Tie as tie
 
 abbrev Inv-loop : tie.InvT-loop
 Inv-loop frames from room₀ at n i₀ room i = (i ≤ n) × (from + n ≤ length frames → room ≡ paste room₀ at (drop from frames) i) × (length room ≡ length room₀)

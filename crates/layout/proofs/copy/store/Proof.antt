@@ -1,4 +1,4 @@
--- `store` writes 16 bytes: after i bytes the room is the one at entry with the first i of them pasted over it. Assumes nothing.
+-- `store` writes 16 bytes: after i bytes the room is the one at entry with the first i of them pasted over it.
 use mathlib.Core.Path.{_≡_, refl, sym, ap, _∙_}
 use mathlib.Core.List.{List, _++_}
 use Prim.Native.Nat.{ℕ, _+_, _-_, _≤_}
@@ -7,8 +7,8 @@ use native.Mathlib.Omega.{arith}
 use borrow.Author.Needs.{needs}
 use lib.ListN.{length, take, drop, set, getD, length-set}
 use lib.Seq.{paste, paste-zero, paste-suc, take-all}
-use Rattle.pen.proofs.store.Statement.{statement}
-use Rattle.pen.proofs.store.Tie as tie
+use Rattle.layout.proofs.copy.store.Statement.{statement}
+use Rattle.layout.proofs.copy.store.Tie as tie
 
 abbrev Inv-loop : tie.InvT-loop
 Inv-loop room₀ at piece i₀ room i = (i ≤ 16) × (room ≡ paste room₀ at piece i) × (length room ≡ length room₀)
