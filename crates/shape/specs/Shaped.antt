@@ -1,19 +1,13 @@
 -- What the shape check answers. Definitions only.
 use mathlib.Core.Path.{_≡_}
-use mathlib.Core.List.{List}
-use Prim.Native.Nat.{ℕ, _+_, _*_, _<_, _≤_}
-use lib.ListN.{length, getD}
+use Prim.Native.Nat.{ℕ, _≤_}
+use lib.ListN.{length}
 use Rattle.words.specs.Reply.{Reply, given, refused}
 use Rattle.machine.specs.Machine.{Tree}
 use Rattle.trees.specs.Preorder.{preorder}
 use Rattle.trees.specs.Shape.{Read}
 use Rattle.shape.specs.declared.Shape.{Shape}
 use Rattle.shape.specs.declared.Shape.the-variants as shape
-
--- The decoded frames F begin with the symbols' frames: symbol f's arity stands at 2 f + 1.
-pub record Arities (F : List ℕ) (symbols : ℕ) (arities : List ℕ) : Type 0 where
-  pub many : symbols ≡ length arities
-  pub each : (f : ℕ) → f < symbols → getD F (2 * f + 1) 0 ≡ getD arities f 0
 
 -- A tree that was read, or trees, end where the answer says; a refusal has its number and place.
 abbrev pub Shaped : {A : Type 0} → Reply (Read A) → Shape → Type 0
