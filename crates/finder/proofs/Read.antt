@@ -7,7 +7,7 @@ use Rattle.words.specs.Word.{Word}
 use Rattle.words.specs.Reply.{Reply, given, refused}
 use Rattle.machine.specs.Machine.{Tree, Table, word}
 use Rattle.trees.specs.Preorder.{preorder}
-use Rattle.trees.specs.Shape.{readTree}
+use Rattle.trees.specs.Shape.{readTree, depthMost}
 use Rattle.trees.specs.Lacking.{lacks}
 use Rattle.trees.proofs.Whole.{read-sound}
 use Rattle.promises.specs.Room.{into}
@@ -41,7 +41,7 @@ module _ (M : Table) (S : List ℕ) where
 
   module _ (t : Tree) (read : readTree (M .arities) S ≡ given t) where
     -- A tree that was read stands at the front of the bytes.
-    pub read-stands : {F I : List ℕ} → Opened F I M → Stands F I S 0 64 M t
+    pub read-stands : {F I : List ℕ} → Opened F I M → Stands F I S 0 depthMost M t
     read-stands o =
         let s = read-sound (M .arities) S t read in
         record { opened = o; ranked = s .1; levels = s .2; behind = []; bytes = s .0 ∙ sym (append-nil (preorder t)) }
