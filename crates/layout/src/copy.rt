@@ -1,10 +1,12 @@
 // Copying the word at a spot into a room: 32 bytes at a time, where the lent bytes and the room have them.
 ghost use mathlib.Core.Path.{_≡_};
-ghost use mathlib.Core.List.{_++_};
-ghost use Prim.Native.Nat.{_+_, _≤_};
+ghost use mathlib.Core.List.{List, _∷_, _++_};
+ghost use Prim.Native.Nat.{_+_, _<_, _≤_};
 ghost use lib.ListN.{length, take, drop};
+ghost use Rattle.words.specs.Word.{Word};
+ghost use Rattle.machine.specs.Machine.{Child};
 ghost use Rattle.layout.specs.Layout.{framesSize};
-ghost use Rattle.layout.specs.Leaves.{Put};
+ghost use Rattle.layout.specs.Leaves.{Spot, Put};
 use crate::FRAMES;
 use crate::wide;
 
@@ -83,4 +85,13 @@ pub fn put_word(frames: &[u8; FRAMES], p: usize, room: &mut [u8], at: usize) -> 
     store(sixteen(frames, p + 1), room, at);
     store(sixteen(frames, p + 17), room, at + 16);
     at + n
+}
+
+// The spot of the word behind the child behind the word at a spot: what `next_spot` answers, for
+// whoever looks himself whether it lies inside the lent bytes.
+pub fn spot_behind(frames: &[u8; FRAMES], p: usize) -> usize
+    requires { ⌜ p < framesSize ⌝ }
+    ensures { λ s. ⌜ ((u : Word) (c : Child) (cs : List Child) → Spot (now (frames .entry)) u (c ∷ cs) p → Spot (now (frames .entry)) (c .after) cs s) ⌝ }
+{
+    p + 2 + wide(frames[p])
 }

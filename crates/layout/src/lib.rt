@@ -8,6 +8,7 @@ ghost use Rattle.machine.specs.Machine.{Table, find};
 ghost use Rattle.layout.specs.Layout.{Opened};
 ghost use Rattle.layout.specs.Leaves.{wordAt, behindAt, LookedUp, Tame, Sought};
 pub use copy::put_word;
+pub use copy::spot_behind;
 pub use counts::arity;
 pub use counts::rules;
 pub use counts::start;
