@@ -19,24 +19,6 @@ abbrev μ-loop : tie.MeasureT-loop
 loop-holds : tie.Need-loop-holds Inv-loop μ-loop
 loop-holds c = (search needs, λ h. paste-zero (c .args .room .now) (c .args .at) (drop (c .args .from) (c .args .frames .now)), refl)
 
-add-room : tie.Need-add-room Inv-loop μ-loop
-add-room c = search needs
-
-element-copy-out-room : tie.Need-element-copy-out-room Inv-loop μ-loop
-element-copy-out-room c = search needs
-
-add-room-2 : tie.Need-add-room-2 Inv-loop μ-loop
-add-room-2 c = search needs
-
-slice-write-room : tie.Need-slice-write-room Inv-loop μ-loop
-slice-write-room c = search needs
-
-add-i : tie.Need-add-i Inv-loop μ-loop
-add-i c = search needs
-
-loop-less : tie.Need-loop-less Inv-loop μ-loop
-loop-less c = search needs
-
 loop-again : tie.Need-loop-again Inv-loop μ-loop
 loop-again c =
     let l = c .before .before .loop in
@@ -52,9 +34,6 @@ loop-again c =
       simp length-set (l .inv .2),
     )
 
-same-length : tie.Need-same-length Inv-loop μ-loop
-same-length c = search needs
-
 returns : tie.Need-returns Inv-loop μ-loop
 returns c h =
     let l = c .before .loop in
@@ -69,12 +48,12 @@ copy-spec =
     Inv-loop
     μ-loop
     loop-holds
-    add-room
-    element-copy-out-room
-    add-room-2
-    slice-write-room
-    add-i
-    loop-less
+    (λ c. search needs)
+    (λ c. search needs)
+    (λ c. search needs)
+    (λ c. search needs)
+    (λ c. search needs)
+    (λ c. search needs)
     loop-again
-    same-length
+    (λ c. search needs)
     returns)

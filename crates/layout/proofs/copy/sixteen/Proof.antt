@@ -18,21 +18,6 @@ abbrev μ-loop : tie.MeasureT-loop
 loop-holds : tie.Need-loop-holds Inv-loop μ-loop
 loop-holds c = (search needs, λ _. refl, refl)
 
-add-piece : tie.Need-add-piece Inv-loop μ-loop
-add-piece c = search needs
-
-element-copy-out-piece : tie.Need-element-copy-out-piece Inv-loop μ-loop
-element-copy-out-piece c = search needs
-
-array-write-piece : tie.Need-array-write-piece Inv-loop μ-loop
-array-write-piece c = search needs
-
-add-i : tie.Need-add-i Inv-loop μ-loop
-add-i c = search needs
-
-loop-less : tie.Need-loop-less Inv-loop μ-loop
-loop-less c = search needs
-
 loop-again : tie.Need-loop-again Inv-loop μ-loop
 loop-again c =
     let l = c .before .before .loop in
@@ -56,10 +41,10 @@ sixteen-spec =
     Inv-loop
     μ-loop
     loop-holds
-    add-piece
-    element-copy-out-piece
-    array-write-piece
-    add-i
-    loop-less
+    (λ c. search needs)
+    (λ c. search needs)
+    (λ c. search needs)
+    (λ c. search needs)
+    (λ c. search needs)
     loop-again
     returns)

@@ -19,21 +19,6 @@ abbrev μ-loop : tie.MeasureT-loop
 loop-holds : tie.Need-loop-holds Inv-loop μ-loop
 loop-holds c = (search needs, paste-zero (c .args .room .now) (c .args .at) (c .args .t1), refl)
 
-array-read-room : tie.Need-array-read-room Inv-loop μ-loop
-array-read-room c = search needs
-
-add-room : tie.Need-add-room Inv-loop μ-loop
-add-room c = search needs
-
-slice-write-room : tie.Need-slice-write-room Inv-loop μ-loop
-slice-write-room c = search needs
-
-add-i : tie.Need-add-i Inv-loop μ-loop
-add-i c = search needs
-
-loop-less : tie.Need-loop-less Inv-loop μ-loop
-loop-less c = search needs
-
 loop-again : tie.Need-loop-again Inv-loop μ-loop
 loop-again c =
     let l = c .before .loop in
@@ -45,9 +30,6 @@ loop-again c =
           ∙ ap (λ (k : ℕ). paste (a .room .now) (a .at) (a .t1) k) (sym (add-one (l .i))),
       simp length-set (l .inv .2),
     )
-
-same-length : tie.Need-same-length Inv-loop μ-loop
-same-length c = search needs
 
 returns : tie.Need-returns Inv-loop μ-loop
 returns c =
@@ -66,11 +48,11 @@ store-spec =
     Inv-loop
     μ-loop
     loop-holds
-    array-read-room
-    add-room
-    slice-write-room
-    add-i
-    loop-less
+    (λ c. search needs)
+    (λ c. search needs)
+    (λ c. search needs)
+    (λ c. search needs)
+    (λ c. search needs)
     loop-again
-    same-length
+    (λ c. search needs)
     returns)
