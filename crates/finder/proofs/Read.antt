@@ -4,16 +4,16 @@ use mathlib.Core.List.{List, [], _++_, append-nil, append-assoc}
 use mathlib.Core.Option.{none, some}
 use Prim.Native.Nat.{ℕ}
 use Rattle.words.specs.Word.{Word}
-use Rattle.words.specs.Reply.{Reply, given, refused}
+use Rattle.words.specs.Reply.{Reply, given, refusal, refused}
 use Rattle.machine.specs.Machine.{Tree, Table, word}
 use Rattle.trees.specs.Preorder.{preorder}
-use Rattle.trees.specs.Shape.{readTree}
+use Rattle.trees.specs.Shape.{readTree, depthMost}
 use Rattle.trees.specs.Lacking.{lacks}
 use Rattle.trees.proofs.Whole.{read-sound}
 use Rattle.promises.specs.Room.{into}
 use Rattle.promises.specs.Word.{wordIn, wordOn, wordInto}
 use Rattle.layout.specs.Layout.{Opened}
-use Rattle.layout.specs.declared.Refusal.{Refusal}
+use Rattle.words.specs.declared.No.{No}
 use Rattle.shape.specs.declared.Shape.the-variants as shape
 use Rattle.shape.specs.Shaped.{Checked}
 use Rattle.walk.specs.Walked.{Stands}
@@ -21,12 +21,12 @@ use Rattle.walk.specs.Walked.{Stands}
 -- Where the shape ends, there is a tree.
 pub ends-given : (o : Reply Tree) (p : ℕ) → Checked o (shape.Ends p) → (t : Tree) × (o ≡ given t)
 ends-given (given t) p h = (t, refl)
-ends-given (refused n q) p h = absurd h
+ends-given (refusal x) p h = absurd h
 
 -- Where the shape is refused, it is refused with that number and place.
-pub shape-no : (o : Reply Tree) (r : Refusal) → Checked o (shape.Refused r) → o ≡ refused (r .number) (r .place)
+pub shape-no : (o : Reply Tree) (r : No) → Checked o (shape.Refused r) → o ≡ refused (r .number) (r .place)
 shape-no (given t) r h = absurd h
-shape-no (refused n p) r h = cc
+shape-no (refusal x) r h = cc
 
 module _ (M : Table) (S : List ℕ) where
   -- A refusal of the shape is the answer.
@@ -41,7 +41,7 @@ module _ (M : Table) (S : List ℕ) where
 
   module _ (t : Tree) (read : readTree (M .arities) S ≡ given t) where
     -- A tree that was read stands at the front of the bytes.
-    pub read-stands : {F I : List ℕ} → Opened F I M → Stands F I S 0 64 M t
+    pub read-stands : {F I : List ℕ} → Opened F I M → Stands F I S 0 depthMost M t
     read-stands o =
         let s = read-sound (M .arities) S t read in
         record { opened = o; ranked = s .1; levels = s .2; behind = []; bytes = s .0 ∙ sym (append-nil (preorder t)) }

@@ -1,14 +1,12 @@
 // The answer of the word call, and why there is no word: the refusal of tree bytes that are no tree
 // with a word, and its place.
-use layout::Head;
-use layout::Refusal;
 use shape::Shape;
 use walk::Walk;
+use words::No;
 ghost use mathlib.Core.Path.{_≡_};
 ghost use Rattle.words.specs.Reply.{refused};
 ghost use Rattle.machine.specs.Machine.{Table};
 ghost use Rattle.layout.specs.Layout.{Opened};
-ghost use Rattle.layout.specs.Leaves.{headOf};
 ghost use Rattle.walk.specs.Walked.{Wordless};
 ghost use Rattle.promises.specs.Word.{wordOn};
 ghost use Rattle.finder.specs.Answer.{placeOf};
@@ -22,7 +20,7 @@ pub struct Letters {
 // The word's record, or the refusal.
 pub enum WordAnswer {
     Found(Letters),
-    Refused(Refusal),
+    Refused(No),
 }
 
 // Where a walk stopped: the first position without a rule, where one is lacking.
@@ -37,15 +35,16 @@ fn place_of(walk: Walk) -> usize
 
 // Why there is no word, where there is none: 6, 7, 8, 10, 11 for the tree's shape, else 9 at the
 // first position without a rule.
-pub fn why(frames: &[u8], index: &[u64], head: Head, tree: &[u8]) -> Refusal
-    ensures { λ r. ⌜ ((M : Table) → Opened (now (frames .entry)) (now (index .entry)) M → head ≡ headOf M → Wordless M (now (tree .entry)) (M .start)
+pub fn why(frames: &[u8], numbers: &[u64], tree: &[u8]) -> No
+    ensures { λ r. ⌜ ((M : Table) → Opened (now (frames .entry)) (now (numbers .entry)) M → Wordless M (now (tree .entry)) (M .start)
         → wordOn M (now (tree .entry)) ≡ refused (r .number) (r .place)) ⌝ }
 {
-    match shape::check(frames, head.symbols, tree) {
+    match shape::check(frames, numbers, tree) {
         Shape::Refused(refusal) => refusal,
         Shape::Ends(_) => {
-            let walk = walk::lacking(64, frames, index, tree, 0, head.start);
-            Refusal {
+            let start = layout::start(numbers);
+            let walk = walk::lacking(layout::LEVELS, numbers, tree, 0, start);
+            No {
                 number: 9,
                 place: place_of(walk),
             }

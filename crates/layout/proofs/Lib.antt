@@ -12,3 +12,4 @@ pub mod Ranges
 pub mod Spots
 pub mod Whole
 pub mod Children
+pub mod Putting

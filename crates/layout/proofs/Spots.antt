@@ -1,7 +1,7 @@
 -- Spots: going through the words and the children of a rule.
 use mathlib.Core.Path.{_≡_, sym, ap, subst, _∙_}
 use mathlib.Core.List.{List, _∷_, _++_, append-assoc}
-use Prim.Native.Nat.{ℕ, _+_, _%_, _<_}
+use Prim.Native.Nat.{ℕ, _+_, _%_, _<_, _≤_}
 use native.Mathlib.Omega.{arith}
 use lib.ListN.{length, getD, drop, length-drop, length-append}
 use Rattle.words.specs.Word.{Word}
@@ -9,7 +9,7 @@ use Rattle.machine.specs.Machine.{Child, Rule, Row, Table}
 use Rattle.text.specs.Writing.{textOf, childrenText}
 use Rattle.layout.specs.Layout.{ruleText, rowFrames, headFrames, Opened}
 use Rattle.layout.specs.Leaves.{wordAt, behindAt, RuleAt, RowAt, Spot}
-use Rattle.layout.proofs.Stretches.{byte-behind, word-here, word-behind, child-state, child-word, child-behind}
+use Rattle.layout.proofs.Stretches.{byte-here, byte-behind, word-here, word-behind, child-state, child-word, child-behind}
 use Rattle.layout.proofs.Rows.{row-rule, row-there}
 use Rattle.layout.proofs.Numbered.{placeOf}
 
@@ -35,6 +35,14 @@ module _ (F : List ℕ) (u : Word) (cs : List Child) (p : ℕ) (s : Spot F u cs 
   -- The word at a spot is read there.
   pub spot-word : wordAt F p ≡ u
   spot-word = word-here F p u (childrenText cs ++ s .behind) (s .bytes)
+
+  -- Its length byte stands there.
+  pub spot-byte : getD F p 0 ≡ length u
+  spot-byte = byte-here F p (length u) (u ++ (childrenText cs ++ s .behind)) (s .bytes)
+
+  -- It stands inside the lent bytes.
+  pub spot-within : p + 1 + length u ≤ length F
+  spot-within = omega (arith, simp (length-drop, length-append) at (ap length (s .bytes)))
 
   -- The children stand behind it.
   pub spot-behind : drop (behindAt F p) F ≡ childrenText cs ++ s .behind

@@ -122,3 +122,11 @@ pub record RulesOf (M : Table) (q from to : ℕ) : Type 0 where
 pub record Spot (F : List ℕ) (u : Word) (cs : List Child) (p : ℕ) : Type 0 where
   pub behind : List ℕ
   pub bytes : drop p F ≡ textOf u ++ (childrenText cs ++ behind)
+
+-- The word at spot p was put into the room from `at` on, and r is the place behind it, if it has room; what lies behind the word may change too.
+pub record Put (F : List ℕ) (p at : ℕ) (R R′ : List ℕ) (r : ℕ) : Type 0 where
+  pub start : at ≤ r
+  pub within : r ≤ length R
+  pub long : length R′ ≡ length R
+  pub written : (u : Word) (cs : List Child) → length F ≡ framesSize → Spot F u cs p → at + length u ≤ length R
+      → (r ≡ at + length u) × (take r R′ ≡ take at R ++ u)

@@ -7,6 +7,8 @@ ghost use lib.ListN.{length, getD};
 ghost use Rattle.machine.specs.Machine.{Table, find};
 ghost use Rattle.layout.specs.Layout.{Opened};
 ghost use Rattle.layout.specs.Leaves.{wordAt, behindAt, LookedUp, Tame, Sought};
+pub use copy::put_word;
+pub use copy::spot_behind;
 pub use counts::arity;
 pub use counts::rules;
 pub use counts::start;
@@ -38,6 +40,7 @@ pub use spot::word_at;
 pub use texts::lines_length;
 pub use texts::rule_text;
 
+mod copy;
 mod counts;
 mod full;
 mod kept;

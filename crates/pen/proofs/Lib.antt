@@ -1,4 +1,3 @@
 -- Laws of the writing pass by a plan.
-pub mod Room
 pub mod Planned
 pub mod Going

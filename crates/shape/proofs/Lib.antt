@@ -1,4 +1,3 @@
--- Laws of the shape check: a tree from what stands below its symbol, the whole tree from the tree at place 0, the arities of an opened table.
+-- Laws of the shape check: a tree from what stands below its symbol and the whole tree from the tree at place 0.
 pub mod Steps
 pub mod Whole
-pub mod Symbols

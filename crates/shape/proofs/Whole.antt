@@ -6,27 +6,27 @@ use native.Mathlib.Nat.{zero-add}
 use native.Mathlib.Omega.{arith}
 use borrow.Author.Tests.{lt-ltb, le-ltb, eq-eqb, ne-eqb}
 use lib.ListN.{length, drop, length-drop}
-use Rattle.words.specs.Reply.{Reply, given, refused, _then_}
+use Rattle.words.specs.Reply.{Reply, given, refusal, refused, _then_}
 use Rattle.machine.specs.Machine.{Tree}
 use Rattle.trees.specs.Preorder.{preorder}
 use Rattle.trees.specs.Shape.{Read, treeAt, alone, readTree, depthMost, treeMost}
 use Rattle.trees.proofs.Shape.{tree-sound}
-use Rattle.layout.specs.declared.Refusal.{Refusal}
+use Rattle.words.specs.declared.No.{No}
 use Rattle.shape.specs.declared.Shape.{Shape}
 use Rattle.shape.specs.declared.Shape.the-variants.{Ends, Refused}
 use Rattle.shape.specs.Shaped.{Shaped, Checked}
 use Rattle.shape.proofs.Steps.{left-behind}
 
 -- What is refused of the tree is refused of the whole.
-refused-alone : (o : Reply (Read Tree)) (r′ : Refusal) → Shaped o (Refused r′) → Checked (o then alone) (Refused r′)
+refused-alone : (o : Reply (Read Tree)) (r′ : No) → Shaped o (Refused r′) → Checked (o then alone) (Refused r′)
 refused-alone (given r) r′ h = absurd h
-refused-alone (refused n p) r′ h = h
+refused-alone (refusal x) r′ h = h
 
 -- A tree that was read is asked what stands behind it.
 ends-alone : (o : Reply (Read Tree)) (next : ℕ) (s : Shape) → ((r : Read Tree) → o ≡ given r → next ≡ r .place → Checked (alone r) s)
     → Shaped o (Ends next) → Checked (o then alone) s
 ends-alone (given r) next s k h = k r refl h
-ends-alone (refused n p) next s k h = absurd h
+ends-alone (refusal x) next s k h = absurd h
 
 module _ (S : List ℕ) (r : Read Tree) (next : ℕ) (ends : next ≡ r .place) (left : r .left ≡ drop (r .place) S) where
   -- Bytes behind a tree are refused at its end.
@@ -59,7 +59,7 @@ module _ (ar S : List ℕ) where
     read-sized = rw (ne-eqb (length S) 0 some, le-ltb treeMost (length S) most)
 
     -- The whole is refused as the tree at place 0 is.
-    pub whole-refused : (r′ : Refusal) → Shaped (treeAt depthMost ar 0 S) (Refused r′) → Checked (readTree ar S) (Refused r′)
+    pub whole-refused : (r′ : No) → Shaped (treeAt depthMost ar 0 S) (Refused r′) → Checked (readTree ar S) (Refused r′)
     whole-refused r′ h = rw read-sized (refused-alone (treeAt depthMost ar 0 S) r′ h)
 
     -- A tree that ends before the bytes do is refused at its end.

@@ -1,26 +1,20 @@
 -- What the shape check answers. Definitions only.
 use mathlib.Core.Path.{_≡_}
-use mathlib.Core.List.{List}
-use Prim.Native.Nat.{ℕ, _+_, _*_, _<_, _≤_}
-use lib.ListN.{length, getD}
-use Rattle.words.specs.Reply.{Reply, given, refused}
+use Prim.Native.Nat.{ℕ, _≤_}
+use lib.ListN.{length}
+use Rattle.words.specs.Reply.{Reply, given, refusal, refused}
 use Rattle.machine.specs.Machine.{Tree}
 use Rattle.trees.specs.Preorder.{preorder}
 use Rattle.trees.specs.Shape.{Read}
 use Rattle.shape.specs.declared.Shape.{Shape}
 use Rattle.shape.specs.declared.Shape.the-variants as shape
 
--- The decoded frames F begin with the symbols' frames: symbol f's arity stands at 2 f + 1.
-pub record Arities (F : List ℕ) (symbols : ℕ) (arities : List ℕ) : Type 0 where
-  pub many : symbols ≡ length arities
-  pub each : (f : ℕ) → f < symbols → getD F (2 * f + 1) 0 ≡ getD arities f 0
-
 -- A tree that was read, or trees, end where the answer says; a refusal has its number and place.
 abbrev pub Shaped : {A : Type 0} → Reply (Read A) → Shape → Type 0
 Shaped (given r) (shape.Ends next) = next ≡ r .place
 Shaped (given r) (shape.Refused r′) = ⊥
-Shaped (refused n p) (shape.Ends next) = ⊥
-Shaped (refused n p) (shape.Refused r′) = (r′ .number ≡ n) × (r′ .place ≡ p)
+Shaped (refusal x) (shape.Ends next) = ⊥
+Shaped (refusal x) (shape.Refused y) = y ≡ x
 
 -- Whatever the bytes are: no tree ends beyond them.
 abbrev pub Inside : ℕ → Shape → Type 0
@@ -31,5 +25,5 @@ Inside len (shape.Refused r′) = Unit {0}
 abbrev pub Checked : Reply Tree → Shape → Type 0
 Checked (given t) (shape.Ends next) = next ≡ length (preorder t)
 Checked (given t) (shape.Refused r′) = ⊥
-Checked (refused n p) (shape.Ends next) = ⊥
-Checked (refused n p) (shape.Refused r′) = (r′ .number ≡ n) × (r′ .place ≡ p)
+Checked (refusal x) (shape.Ends next) = ⊥
+Checked (refusal x) (shape.Refused y) = y ≡ x

@@ -1,4 +1,5 @@
--- The room after a planned tree's word was written to a part of it: a part of the word's length, or one of 32 bytes more that were saved before and put back. Assumes nothing.
+-- The room after a planned tree's word was written to a part of it: a part of the word's length, or one of 32 bytes more
+-- that were saved before and put back. Assumes nothing.
 use mathlib.Core.Path.{_≡_, sym, ap, _∙_}
 use mathlib.Core.List.{List, _++_, append-assoc}
 use Prim.Native.Nat.{ℕ, _+_, _-_, _≤_}
@@ -8,6 +9,7 @@ use lib.ListN.{length, take, drop, take-append-drop}
 use lib.Seq.{take-all, take-append-add, take-append-le, length-take-le, drop-drop}
 use Rattle.words.specs.Word.{Word}
 use Rattle.machine.specs.Machine.{Tree, Table}
+use Rattle.trees.specs.Shape.{depthMost}
 use Rattle.pen.specs.Penned.{Due, Tidy}
 use Rattle.pen.proofs.Going.{Pens}
 
@@ -59,13 +61,14 @@ saved-long R piece end h b =
     let n : end + 32 - end ≡ 32 = omega arith in
     sym (ap (λ (x : List ℕ). length x) (b ∙ ap (λ (k : ℕ). take k (drop end R)) (sym n)) ∙ mid-len end (end + 32) R h ∙ n)
 
-module _ {F P : List ℕ} {letters : ℕ} {M : Table} {q : ℕ} {t : Tree} {w : Word} (d : Due F P 0 64 letters M q t w) (many : letters ≡ length w) where
+module _ {F P : List ℕ} {letters : ℕ} {M : Table} {q : ℕ} {t : Tree} {w : Word} (d : Due F P 0 depthMost letters M q t w) (many : letters ≡ length w) where
   -- Writing is due too where more letters have room.
-  due-in : (room : ℕ) → letters ≤ room → Due F P 0 64 room M q t w
+  due-in : (room : ℕ) → letters ≤ room → Due F P 0 depthMost room M q t w
   due-in room h = record { bytes = d .bytes; planned = d .planned; levels = d .levels; inside = d .inside; word = d .word; fits = omega arith }
 
   -- Exactly the word's part was lent.
-  pub exactly-put : {s : ℕ} (R ys : List ℕ) (from : ℕ) → from + letters ≤ length R → Pens F P 64 0 (length (take (from + letters - from) (drop from R))) ys s
+  pub exactly-put : {s : ℕ} (R ys : List ℕ) (from : ℕ) → from + letters ≤ length R
+      → Pens F P depthMost 0 (length (take (from + letters - from) (drop from R))) ys s
       → Tidy (take (from + letters - from) (drop from R)) ys s → putMid from (from + letters - from) R ys ≡ take from R ++ w ++ drop (from + letters) R
   exactly-put R ys from h pens tidy =
       let end : ℕ = from + letters in
@@ -75,7 +78,7 @@ module _ {F P : List ℕ} {letters : ℕ} {M : Table} {q : ℕ} {t : Tree} {w : 
   -- 32 bytes more were lent, and put back.
   pub more-put : {s : ℕ} (R R′ ys piece : List ℕ) (from : ℕ) → from + letters + 32 ≤ length R
       → piece ≡ take 32 (drop (from + letters) R)
-      → Pens F P 64 0 (length (take (from + letters + 32 - from) (drop from R))) ys s
+      → Pens F P depthMost 0 (length (take (from + letters + 32 - from) (drop from R))) ys s
       → Tidy (take (from + letters + 32 - from) (drop from R)) ys s
       → (let B = putMid from (from + letters + 32 - from) R ys in R′ ≡ take (from + letters) B ++ piece ++ drop (from + letters + length piece) B)
       → R′ ≡ take from R ++ w ++ drop (from + letters) R

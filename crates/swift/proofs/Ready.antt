@@ -1,21 +1,19 @@
 -- The answer for a tree that was counted: 12, or the room that is filled with the words of the initial rule and the tree's word between them. Assumes nothing.
-use mathlib.Core.Path.{_≡_, refl, ap, subst, subst⁻¹, _∙_}
+use mathlib.Core.Path.{_≡_, refl, subst, subst⁻¹}
 use mathlib.Core.List.{List, _++_}
 use Prim.Native.Nat.{ℕ, _+_, _<_, _≤_}
 use native.Mathlib.Omega.{arith}
 use lib.ListN.{length, take, drop, length-append}
 use Rattle.words.specs.Word.{Word, terms}
-use Rattle.words.specs.Reply.{Reply, given, refused}
+use Rattle.words.specs.Reply.{Reply, given, refusal, refused}
 use Rattle.machine.specs.Machine.{Tree, Table}
 use Rattle.trees.specs.Preorder.{preorder}
+use Rattle.trees.specs.Shape.{treeMost, depthMost}
 use Rattle.trees.proofs.Whole.{read-complete}
 use Rattle.promises.specs.Room.{into}
 use Rattle.promises.specs.Word.{wordOn, wordInto}
 use Rattle.layout.specs.Layout.{Opened}
-use Rattle.layout.specs.Leaves.{wordAt, headOf}
-use Rattle.layout.specs.declared.Head.{Head}
-use Rattle.layout.specs.declared.Refusal.{Refusal}
-use Rattle.layout.proofs.Heads.{before-word, after-word}
+use Rattle.words.specs.declared.No.{No}
 use Rattle.walk.specs.Walked.{Wordless}
 use Rattle.tally.specs.declared.Tally.{Tally}
 use Rattle.tally.specs.declared.Tally.the-variants as tally
@@ -29,25 +27,16 @@ use Rattle.finder.proofs.Read.{into-no, into-word}
 use Rattle.swift.proofs.Room.{three-filled}
 
 -- u and v are the words of the initial rule, and the tree that the bytes S are was counted.
-pub record Ready (F I S P : List ℕ) (head : Head) (letters : ℕ) (u v : Word) (M : Table) : Type 0 where
+pub record Ready (F I S P : List ℕ) (letters : ℕ) (u v : Word) (M : Table) : Type 0 where
   pub opened : Opened F I M
-  pub is : head ≡ headOf M
   pub counted : Counted F S P M (M .start) letters
-  pub first : u ≡ wordAt F (head .before)
-  pub last : v ≡ wordAt F (head .after)
+  pub first : u ≡ M .before
+  pub last : v ≡ M .after
 
-module _ {F I S P : List ℕ} {head : Head} {letters : ℕ} {u v : Word} {M : Table} (b : Ready F I S P head letters u v M) where
-  -- u is the initial rule's first word.
-  first-is : u ≡ M .before
-  first-is = b .first ∙ ap (λ (h : Head). wordAt F (h .before)) (b .is) ∙ before-word (b .opened)
-
-  -- v is its second word.
-  last-is : v ≡ M .after
-  last-is = b .last ∙ ap (λ (h : Head). wordAt F (h .after)) (b .is) ∙ after-word (b .opened)
-
+module _ {F I S P : List ℕ} {letters : ℕ} {u v : Word} {M : Table} (b : Ready F I S P letters u v M) where
   -- The output is the three words, one behind the other.
   output-is : u ++ b .counted .letters-of ++ v ≡ M .before ++ b .counted .letters-of ++ M .after
-  output-is = cc (first-is, last-is)
+  output-is = cc (b .first, b .last)
 
   -- It has the letters of the three.
   output-long : length u + letters + length v ≡ length (u ++ b .counted .letters-of ++ v)
@@ -67,10 +56,10 @@ module _ {F I S P : List ℕ} {head : Head} {letters : ℕ} {u v : Word} {M : Ta
   ready-short R h e = ready-answer R R (short-said R (u ++ b .counted .letters-of ++ v) (length u + letters + length v) output-long h e)
 
   -- Writing by the plan is due.
-  ready-due : Due F P 0 64 letters M (M .start) (b .counted .tree) (b .counted .letters-of)
+  ready-due : Due F P 0 depthMost letters M (M .start) (b .counted .tree) (b .counted .letters-of)
   ready-due =
       let k = b .counted in
-      let s : length (preorder (k .tree)) ≤ 32768 = rw (k .bytes) at (k .size) in
+      let s : length (preorder (k .tree)) ≤ treeMost = rw (k .bytes) at (k .size) in
       record {
         bytes = b .opened .bytes;
         planned = k .planned;
@@ -83,7 +72,8 @@ module _ {F I S P : List ℕ} {head : Head} {letters : ℕ} {u v : Word} {M : Ta
   -- In a room that is long enough, u is put at its front, the tree's word behind it, and v behind that.
   pub ready-fits : {r : WordAnswer} (R R₁ R₂ R₃ : List ℕ) (from n : ℕ) → length u + letters + length v ≤ length R
       → R₁ ≡ take 0 R ++ u ++ drop (0 + length u) R → from ≡ 0 + length u
-      → ((M : Table) (q : ℕ) (t : Tree) (w : Word) → Due F P 0 64 letters M q t w → letters ≡ length w → R₂ ≡ take from R₁ ++ w ++ drop (from + letters) R₁)
+      → ((M : Table) (q : ℕ) (t : Tree) (w : Word) → Due F P 0 depthMost letters M q t w → letters ≡ length w
+      → R₂ ≡ take from R₁ ++ w ++ drop (from + letters) R₁)
       → R₃ ≡ take (from + letters) R₂ ++ v ++ drop (from + letters + length v) R₂
       → n ≡ terms (take (length u + letters + length v) R₃) → r ≡ found.Found (record { length = length u + letters + length v; terms = n })
       → Answers (wordInto M S (length R)) R R₃ r
@@ -97,21 +87,18 @@ module _ {F I S P : List ℕ} {head : Head} {letters : ℕ} {u v : Word} {M : Ta
       (subst (λ (x : ℕ). R₂ ≡ take from R₁ ++ w ++ drop (from + x) R₁) (k .many) y)
       (subst (λ (x : ℕ). R₃ ≡ take (from + x) R₂ ++ v ++ drop (from + x + length v) R₂) (k .many) e₃)))
 
--- What a tally that counted says, from the initial state on.
-pub tally-counted : {F S P : List ℕ} {M : Table} {head : Head} {r : Tally} (letters : ℕ) → Tallied F S P M (head .start) r → r ≡ tally.Counted letters
-    → head ≡ headOf M → Counted F S P M (M .start) letters
-tally-counted {F} {S} {P} {M} {head} {r} letters h e i =
-    subst (λ (x : Head). Counted F S P M (x .start) letters) i (subst (λ (x : Tally). Tallied F S P M (head .start) x) e h)
+-- What a tally that counted says.
+pub tally-counted : {F S P : List ℕ} {M : Table} {q : ℕ} {r : Tally} (letters : ℕ) → Tallied F S P M q r → r ≡ tally.Counted letters → Counted F S P M q letters
+tally-counted {F} {S} {P} {M} {q} letters h e = subst (λ (x : Tally). Tallied F S P M q x) e h
 
 -- It counted few letters.
 pub tally-few : (r : Tally) (letters : ℕ) → Few r → r ≡ tally.Counted letters → letters ≤ 8388608
 tally-few r letters h e = rw e at h
 
--- What a tally that did not count says: why there is no word, from the initial state on, is the answer.
-pub tally-other : {F I : List ℕ} (S P : List ℕ) {M : Table} {head : Head} (r : Tally) {why : Refusal} (R : List ℕ) → Tallied F S P M (head .start) r
-    → r ≡ tally.Other → Opened F I M → head ≡ headOf M
-    → ((M : Table) → Opened F I M → head ≡ headOf M → Wordless M S (M .start) → wordOn M S ≡ refused (why .number) (why .place))
+-- What a tally that did not count says: why there is no word is the answer.
+pub tally-other : {F I : List ℕ} (S P : List ℕ) {M : Table} (r : Tally) {why : No} (R : List ℕ) → Tallied F S P M (M .start) r
+    → r ≡ tally.Other → Opened F I M → ((M : Table) → Opened F I M → Wordless M S (M .start) → wordOn M S ≡ refused (why .number) (why .place))
     → Answers (wordInto M S (length R)) R R (found.Refused why)
-tally-other {F} {I} S P {M} {head} r {why} R h e o i told =
-    let n = subst (λ (x : Head). Wordless M S (x .start)) i (subst (λ (x : Tally). Tallied F S P M (head .start) x) e h) in
-    refused-said R (why .number) (why .place) (into-no M S (length R) (why .number) (why .place) (told M o i n)) refl
+tally-other {F} {I} S P {M} r {why} R h e o told =
+    let n = subst (λ (x : Tally). Tallied F S P M (M .start) x) e h in
+    refused-said R (why .number) (why .place) (into-no M S (length R) (why .number) (why .place) (told M o n)) refl

@@ -2,17 +2,16 @@
 // the plan; where the loop finds no word, the finder tells why, with number and place.
 use finder::Letters;
 use finder::WordAnswer;
-use layout::Head;
-use layout::Refusal;
 use tally::Tally;
+use words::No;
 ghost use mathlib.Core.Path.{_≡_};
 ghost use mathlib.Core.List.{List, _++_};
 ghost use Prim.Native.Nat.{ℕ, _+_, _≤_};
 ghost use lib.ListN.{length, take, drop};
 ghost use Rattle.words.specs.Word.{Word};
 ghost use Rattle.machine.specs.Machine.{Tree, Table};
+ghost use Rattle.trees.specs.Shape.{depthMost};
 ghost use Rattle.layout.specs.Layout.{Opened};
-ghost use Rattle.layout.specs.Leaves.{headOf};
 ghost use Rattle.promises.specs.Word.{wordInto};
 ghost use Rattle.finder.specs.Answer.{Answers};
 ghost use Rattle.tally.specs.Tallied.{Counted};
@@ -49,42 +48,47 @@ fn saved(room: &[u8], at: usize) -> [u8; 32]
 // Writes the word of a planned tree, of so many letters, into the room from `from` on. Where the
 // room has 32 bytes behind the word they are lent too, so that its last letters are copied at once,
 // and put back afterwards.
-fn put_tree(frames: &[u8; 16448], plan: &[u32; 32768], letters: usize, room: &mut [u8], from: usize)
+fn put_tree(
+    frames: &[u8; layout::FRAMES],
+    plan: &[u32; layout::TREE],
+    letters: usize,
+    room: &mut [u8],
+    from: usize,
+)
     requires { ⌜ (letters ≤ 8388608) × (from + letters ≤ length (now room)) ⌝ }
-    ensures { λ _. ⌜ ((M : Table) (q : ℕ) (t : Tree) (w : Word) → Due (now (frames .entry)) (now (plan .entry)) 0 64 letters M q t w → letters ≡ length w
+    ensures { λ _. ⌜ ((M : Table) (q : ℕ) (t : Tree) (w : Word) → Due (now (frames .entry)) (now (plan .entry)) 0 depthMost letters M q t w → letters ≡ length w
         → now (room .exit) ≡ take from (now (room .entry)) ++ w ++ drop (from + letters) (now (room .entry))) ⌝ }
 {
     let end = from + letters;
     if room.len() - end < 32 {
-        pen::eval(64, plan, frames, 0, &mut room[from..end]);
+        pen::eval(layout::LEVELS, plan, frames, 0, &mut room[from..end]);
         return;
     }
     let behind = saved(room, end);
     let spare = end + 32;
-    pen::eval(64, plan, frames, 0, &mut room[from..spare]);
+    pen::eval(layout::LEVELS, plan, frames, 0, &mut room[from..spare]);
     put(&behind, room, end);
 }
 
 // Writes the word of a tree that was counted, between the words of the initial rule: 12 with the
 // length needed where the room is too short.
 fn write(
-    frames: &[u8; 16448],
-    head: Head,
-    plan: &[u32; 32768],
+    frames: &[u8; layout::FRAMES],
+    numbers: &[u64; layout::NUMBERS],
+    plan: &[u32; layout::TREE],
     letters: usize,
     room: &mut [u8],
 ) -> WordAnswer
     requires { ⌜ letters ≤ 8388608 ⌝ }
-    ensures { λ r. ⌜ ((I S : List ℕ) (M : Table) → Opened (now (frames .entry)) I M → head ≡ headOf M
+    ensures { λ r. ⌜ ((S : List ℕ) (M : Table) → Opened (now (frames .entry)) (now (numbers .entry)) M
         → Counted (now (frames .entry)) S (now (plan .entry)) M (M .start) letters
         → Answers (wordInto M S (length (now (room .entry)))) (now (room .entry)) (now (room .exit)) r) ⌝ }
 {
-    let bytes: &[u8] = frames;
-    let before = layout::stretch(bytes, head.before);
-    let after = layout::stretch(bytes, head.after);
+    let before = layout::word_before(frames, numbers);
+    let after = layout::word_after(frames, numbers);
     let length = before.len() + letters + after.len();
     if room.len() < length {
-        return WordAnswer::Refused(Refusal {
+        return WordAnswer::Refused(No {
             number: 12,
             place: length,
         });
@@ -99,19 +103,18 @@ fn write(
 
 // The word of a tree by an opened table, written to the front of the room, or the refusal.
 pub fn find(
-    frames: &[u8; 16448],
-    index: &[u64; 4096],
-    head: Head,
+    frames: &[u8; layout::FRAMES],
+    numbers: &[u64; layout::NUMBERS],
     tree: &[u8],
-    plan: &mut [u32; 32768],
+    plan: &mut [u32; layout::TREE],
     room: &mut [u8],
 ) -> WordAnswer
-    ensures { λ r. ⌜ ((M : Table) → Opened (now (frames .entry)) (now (index .entry)) M → head ≡ headOf M
+    ensures { λ r. ⌜ ((M : Table) → Opened (now (frames .entry)) (now (numbers .entry)) M
         → Answers (wordInto M (now (tree .entry)) (length (now (room .entry)))) (now (room .entry)) (now (room .exit)) r) ⌝ }
 {
-    let counted = tally::measure(index, tree, plan, head.start);
+    let counted = tally::measure(numbers, tree, plan);
     let Tally::Counted { letters } = counted else {
-        return WordAnswer::Refused(finder::why(frames, index, head, tree));
+        return WordAnswer::Refused(finder::why(frames, numbers, tree));
     };
-    write(frames, head, plan, letters, room)
+    write(frames, numbers, plan, letters, room)
 }

@@ -2,11 +2,13 @@
 use mathlib.Core.Path.{_≡_, refl, ap, _∙_}
 use mathlib.Core.List.{List, [], _∷_, _++_, append-nil}
 use mathlib.Core.Option.{some}
-use Prim.Native.Nat.{ℕ, suc, _+_, _/_, _%_, _<_, _≤_}
+use Prim.Native.Nat.{ℕ, suc, _+_, _*_, _/_, _%_, _<_, _≤_}
 use native.Mathlib.Omega.{arith}
 use lib.ListN.{length, getD, set, drop}
 use lib.Seq.{drop-cons, drop-length, getD-set-same, getD-set-other}
 use Rattle.machine.specs.Machine.{Forest, ∅, _▸_, Rule, Table, find}
+use Rattle.text.specs.Limits.{statesMost}
+use Rattle.trees.specs.Shape.{treeMost, depthMost}
 use Rattle.trees.specs.Preorder.{preorders}
 use Rattle.layout.specs.Layout.{ruleLetters}
 use Rattle.walk.specs.Plan.{Names}
@@ -24,15 +26,15 @@ pub record Going (F S P : List ℕ) (M : Table) (q : ℕ) (vs : List ℕ) (at le
       → Counted F S P′ M q a
 
 -- At first one state waits: a tree that is right for it is the whole.
-pub going-first : (F S P : List ℕ) (M : Table) (q : ℕ) → q < 64 → length S ≤ 32768 → Going F S P M q (q ∷ []) 0 0
+pub going-first : (F S P : List ℕ) (M : Table) (q : ℕ) → q < statesMost → length S ≤ treeMost → Going F S P M q (q ∷ []) 0 0
 going-first F S P M q l z = record { whole = λ P′ ts n g h e a x. first P′ ts n h e a x }
   where
     first : (P′ : List ℕ) (ts : Forest) (n : ℕ) → Held F P′ M ts (q ∷ []) 0 n → S ≡ preorders ts → (a : ℕ) → a ≡ 0 + n → Counted F S P′ M q a
     first P′ ∅ n h e a x = absurd h
     first P′ (t ▸ (u ▸ ts)) n h e a x = absurd (h .1)
     first P′ (t ▸ ∅) n h e a x =
-        let m : q % 64 ≡ q = omega arith in
-        let d : q / 64 ≡ 0 = omega arith in
+        let m : q % statesMost ≡ q = omega arith in
+        let d : q / statesMost ≡ 0 = omega arith in
         record {
           tree = t;
           bytes = e ∙ unfold preorders in append-nil _;
@@ -46,10 +48,11 @@ going-first F S P M q l z = record { whole = λ P′ ts n g h e a x. first P′ 
         }
 
 -- The first number that waits meets the next symbol, and there is a rule: its children wait now.
-pub going-next : {F S P : List ℕ} {M : Table} {q v : ℕ} {vs : List ℕ} {at letters : ℕ} → Going F S P M q (v ∷ vs) at letters → at < length S → at < length P → v < 4096
-    → (r : Rule) (y : ℕ) → find (M .rows) (v % 64) (getD S at 0) ≡ some r → Fitted M (getD S at 0) r → Names F y r
+pub going-next : {F S P : List ℕ} {M : Table} {q v : ℕ} {vs : List ℕ} {at letters : ℕ} → Going F S P M q (v ∷ vs) at letters
+    → at < length S → at < length P → v < statesMost * depthMost
+    → (r : Rule) (y : ℕ) → find (M .rows) (v % statesMost) (getD S at 0) ≡ some r → Fitted M (getD S at 0) r → Names F y r
     → (l : ℕ) → l ≡ letters + ruleLetters r
-    → Going F S (set P at y) M q (kids (suc (v / 64)) (r .rest) ++ vs) (suc at) l
+    → Going F S (set P at y) M q (kids (suc (v / statesMost)) (r .rest) ++ vs) (suc at) l
 going-next {F} {S} {P} {M} {q} {v} {vs} {at} {letters} k i j b r y e f m l el =
     record {
       whole = λ P′ ts n agrees h d x ex.

@@ -1,4 +1,4 @@
--- Trees for the states that wait. A waiting number is a state and 64 for each symbol above it.
+-- Trees for the states that wait. A waiting number is a state, and the most states that there may be for each symbol above it.
 use mathlib.Core.Path.{_≡_, refl, sym, ap, subst, _∙_}
 use mathlib.Core.List.{List, [], _∷_, _++_, append-assoc}
 use mathlib.Core.Option.{some}
@@ -9,6 +9,8 @@ use Rattle.words.specs.Word.{Word}
 use Rattle.machine.specs.Machine.{Tree, Forest, node, ∅, _▸_, Child, Rule, Table, Each, find, word, words}
 use Rattle.machine.specs.Ranks.{count, Ranked, Rankeds}
 use Rattle.machine.proofs.Word.{word-join, words-join}
+use Rattle.text.specs.Limits.{statesMost}
+use Rattle.trees.specs.Shape.{depthMost}
 use Rattle.trees.specs.Preorder.{preorder, preorders, Levels, Levelss}
 use Rattle.layout.specs.Layout.{restLetters, ruleLetters}
 use Rattle.walk.specs.Plan.{Names, Planned, Planneds}
@@ -17,10 +19,10 @@ use Rattle.walk.specs.Plan.{Names, Planned, Planneds}
 -- The word is the first of several, which have n letters in all.
 pub record Front (F P : List ℕ) (M : Table) (t : Tree) (v at n : ℕ) : Type 0 where
   pub ranked : Ranked (M .arities) t
-  pub levels : Levels t (64 - v / 64)
+  pub levels : Levels t (depthMost - v / statesMost)
   pub letters-of : Word
-  pub is : word M (v % 64) t ≡ some letters-of
-  pub planned : Planned F P M t (v % 64) at
+  pub is : word M (v % statesMost) t ≡ some letters-of
+  pub planned : Planned F P M t (v % statesMost) at
   pub more : ℕ
   pub letters : n ≡ length letters-of + more
 
@@ -34,7 +36,7 @@ Held F P M (t ▸ ts) (v ∷ vs) at n = (h : Front F P M t v at n) × Held F P M
 -- The waiting numbers of a rule's children with e symbols above them.
 abbrev pub kids : ℕ → List Child → List ℕ
 kids e [] = []
-kids e (c ∷ cs) = (64 * e + c .state) ∷ kids e cs
+kids e (c ∷ cs) = (statesMost * e + c .state) ∷ kids e cs
 
 -- Trees for a rule's children and for others: the first are right for the rest of the rule, the others for what waits behind.
 record Parted (F P : List ℕ) (M : Table) (ts : Forest) (e : ℕ) (cs : List Child) (vs : List ℕ) (at n : ℕ) : Type 0 where
@@ -43,7 +45,7 @@ record Parted (F P : List ℕ) (M : Table) (ts : Forest) (e : ℕ) (cs : List Ch
   bytes : preorders ts ≡ preorders trees ++ preorders others
   many : count trees ≡ length cs
   ranked : Rankeds (M .arities) trees
-  levels : Levelss trees (64 - e)
+  levels : Levelss trees (depthMost - e)
   letters-of : Word
   is : words M trees cs ≡ some letters-of
   planned : Planneds F P M trees cs at
@@ -73,12 +75,12 @@ module _ (F P : List ℕ) (M : Table) (e : ℕ) (vs : List ℕ) where
       }
 
   -- A child: the first tree is its own.
-  part-child : (t : Tree) (ts : Forest) (c : Child) (cs : List Child) (at n : ℕ) → c .state < 64 → (h : Front F P M t (64 * e + c .state) at n)
+  part-child : (t : Tree) (ts : Forest) (c : Child) (cs : List Child) (at n : ℕ) → c .state < statesMost → (h : Front F P M t (statesMost * e + c .state) at n)
       → Parted F P M ts e cs vs (at + length (preorder t)) (h .more) → Parted F P M (t ▸ ts) e (c ∷ cs) vs at n
   unfolding preorders Levelss Planneds restLetters
   part-child t ts c cs at n k h p =
-      let q : (64 * e + c .state) % 64 ≡ c .state = omega arith in
-      let d : (64 * e + c .state) / 64 ≡ e = omega arith in
+      let q : (statesMost * e + c .state) % statesMost ≡ c .state = omega arith in
+      let d : (statesMost * e + c .state) / statesMost ≡ e = omega arith in
       let w : word M (c .state) t ≡ some (h .letters-of) = rw q at (h .is) in
       let u = length-append (preorder t) (preorders (p .trees)) in
       let z : at + length (preorder t) + length (preorders (p .trees)) ≡ at + length (preorder t ++ preorders (p .trees)) = omega arith in
@@ -100,16 +102,18 @@ module _ (F P : List ℕ) (M : Table) (e : ℕ) (vs : List ℕ) where
       }
 
   -- Trees for a rule's children and for others part.
-  part : (cs : List Child) (ts : Forest) (at n : ℕ) → Each (λ c ds. c .state < 64) cs → Held F P M ts (kids e cs ++ vs) at n → Parted F P M ts e cs vs at n
+  part : (cs : List Child) (ts : Forest) (at n : ℕ) → Each (λ c ds. c .state < statesMost) cs
+      → Held F P M ts (kids e cs ++ vs) at n → Parted F P M ts e cs vs at n
   part [] ts at n k h = part-none ts at n h
   part (c ∷ cs) ∅ at n k h = absurd h
   part (c ∷ cs) (t ▸ ts) at n k h = part-child t ts c cs at n (k .0) (h .0) (part cs ts (at + length (preorder t)) (h .0 .more) (k .1) (h .1))
 
--- A rule that fits the table M: its symbol is in the list, with as many trees as the rule has children, whose states are below 64.
+-- A rule that fits the table M: its symbol is in the list, with as many trees as the rule has children, whose states are the table's, and few enough.
 pub record Fitted (M : Table) (f : ℕ) (r : Rule) : Type 0 where
   pub symbol : f < length (M .arities)
   pub arity : length (r .rest) ≡ getD (M .arities) f 0
-  pub states : Each (λ c ds. c .state < 64) (r .rest)
+  pub own : Each (λ c ds. c .state < M .states) (r .rest)
+  pub states : Each (λ c ds. c .state < statesMost) (r .rest)
 
 -- Trees for the waiting numbers vs, whose symbols in preorder are the bytes bs.
 pub record Forested (F P : List ℕ) (M : Table) (vs : List ℕ) (at n : ℕ) (bs : List ℕ) : Type 0 where
@@ -118,11 +122,12 @@ pub record Forested (F P : List ℕ) (M : Table) (vs : List ℕ) (at n : ℕ) (b
   pub bytes : bs ≡ preorders trees
 
 -- A symbol with the trees below it: right for the number v, where the rule of v's state is planned there and the trees are right for its children.
-grown : {F P : List ℕ} {M : Table} (f v : ℕ) (r : Rule) {ts : Forest} {vs : List ℕ} {at n : ℕ} → v < 4096 → find (M .rows) (v % 64) f ≡ some r → Fitted M f r → Names F (getD P at 0) r
-    → Parted F P M ts (suc (v / 64)) (r .rest) vs (suc at) n → Forested F P M (v ∷ vs) at (ruleLetters r + n) (f ∷ preorders ts)
+grown : {F P : List ℕ} {M : Table} (f v : ℕ) (r : Rule) {ts : Forest} {vs : List ℕ} {at n : ℕ} → v < statesMost * depthMost
+    → find (M .rows) (v % statesMost) f ≡ some r → Fitted M f r → Names F (getD P at 0) r
+    → Parted F P M ts (suc (v / statesMost)) (r .rest) vs (suc at) n → Forested F P M (v ∷ vs) at (ruleLetters r + n) (f ∷ preorders ts)
 unfolding preorder Levels Planned ruleLetters
 grown {F} {P} {M} f v r {ts} {vs} {at} {n} l e i m p =
-    let d : 64 - v / 64 ≡ suc (64 - suc (v / 64)) = omega arith in
+    let d : depthMost - v / statesMost ≡ suc (depthMost - suc (v / statesMost)) = omega arith in
     let t : Tree = node f (p .trees) in
     let w = p .letters-of in
     let z : suc at + length (preorders (p .trees)) ≡ at + suc (length (preorders (p .trees))) = omega arith in
@@ -133,7 +138,7 @@ grown {F} {P} {M} f v r {ts} {vs} {at} {n} l e i m p =
           ranked = (i .symbol, p .many ∙ i .arity, p .ranked);
           levels = subst (λ (k : ℕ). Levels t k) (sym d) (p .levels);
           letters-of = r .first ++ w;
-          is = word-join M (v % 64) f (p .trees) r w e (p .is);
+          is = word-join M (v % statesMost) f (p .trees) r w e (p .is);
           planned = (r, e, m, p .planned);
           more = p .more;
           letters = omega (arith, p .letters, length-append (r .first) w);
@@ -144,6 +149,7 @@ grown {F} {P} {M} f v r {ts} {vs} {at} {n} l e i m p =
     }
 
 -- Trees for a rule's children and for others give trees for the number that the rule is for and the others.
-pub forested : {F P : List ℕ} {M : Table} (f v : ℕ) (r : Rule) (ts : Forest) {vs : List ℕ} {at : ℕ} (n : ℕ) → v < 4096 → find (M .rows) (v % 64) f ≡ some r → Fitted M f r
-    → Names F (getD P at 0) r → Held F P M ts (kids (suc (v / 64)) (r .rest) ++ vs) (suc at) n → Forested F P M (v ∷ vs) at (ruleLetters r + n) (f ∷ preorders ts)
-forested {F} {P} {M} f v r ts {vs} {at} n l e i m h = grown f v r l e i m (part F P M (suc (v / 64)) vs (r .rest) ts (suc at) n (i .states) h)
+pub forested : {F P : List ℕ} {M : Table} (f v : ℕ) (r : Rule) (ts : Forest) {vs : List ℕ} {at : ℕ} (n : ℕ) → v < statesMost * depthMost
+    → find (M .rows) (v % statesMost) f ≡ some r → Fitted M f r → Names F (getD P at 0) r
+    → Held F P M ts (kids (suc (v / statesMost)) (r .rest) ++ vs) (suc at) n → Forested F P M (v ∷ vs) at (ruleLetters r + n) (f ∷ preorders ts)
+forested {F} {P} {M} f v r ts {vs} {at} n l e i m h = grown f v r l e i m (part F P M (suc (v / statesMost)) vs (r .rest) ts (suc at) n (i .states) h)

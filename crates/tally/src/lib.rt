@@ -2,10 +2,14 @@
 // writing pass; or that the bytes are no tree with a word.
 ghost use mathlib.Core.Path.{_≡_};
 ghost use mathlib.Core.List.{List};
-ghost use Prim.Native.Nat.{ℕ, suc, _+_, _*_, _/_, _%_, _<_, _≤_};
+ghost use Prim.Native.Nat.{ℕ, suc, _+_, _*_, _/_, _<_, _≤_};
 ghost use Rattle.words.specs.Told.{Told};
 ghost use Rattle.machine.specs.Machine.{Table};
+ghost use Rattle.text.specs.Limits.{statesMost};
+ghost use Rattle.trees.specs.Shape.{depthMost};
 ghost use Rattle.layout.specs.Layout.{Opened};
+ghost use Rattle.layout.specs.Leaves.{Tells};
+ghost use Rattle.walk.specs.Plan.{Names};
 ghost use Rattle.tally.specs.Tallied.{Tallied, Few, Ready, Usual, NextIs};
 
 // A tree's letters; or that the bytes are no tree with a word.
@@ -14,99 +18,61 @@ pub enum Tally {
     Other,
 }
 
-fn wide(x: u8) -> usize
-    ensures { λ r. ⌜ (r ≡ x) × (r < 256) ⌝ }
+// The plan's number of the rule that x tells: the spot of its first word, and how many children it has.
+fn plan_of(numbers: &[u64], x: u64) -> u32
+    ensures { λ r. ⌜ ((F : List ℕ) (M : Table) (q f : ℕ) → Opened F (now (numbers .entry)) M → (t : Tells M q f x) → Names F r (t .rule)) ⌝ }
 {
-    x as usize
+    let spot = layout::spot_of(numbers, layout::number_in(x));
+    (spot + layout::kids_in(x) * walk::PLAN_UNIT) as u32
 }
 
-// How many letters a rule's words have.
-fn counts(x: u64) -> u64
-    ensures { λ r. ⌜ (r ≡ x % 256) × (r < 256) ⌝ }
+// The level of a waiting number's children: a unit for each symbol above them.
+fn level_below(next: usize) -> usize
+    requires { ⌜ next < statesMost * depthMost ⌝ }
+    ensures { λ r. ⌜ (r ≡ statesMost * suc (next / statesMost)) × (r ≤ statesMost * depthMost) ⌝ }
 {
-    x % 256
+    next - next % layout::STATES + layout::STATES
 }
 
-// The plan's number of a rule: where it stands, and from 16,384 on how many children it has.
-fn plan_of(x: u64) -> u32
-    ensures { λ r. ⌜ r ≡ x / 256 % 16384 + x / 18014398509481984 % 8 * 16384 ⌝ }
+// The waiting number of a child behind the first: its state, with a unit for each symbol above it.
+fn child(level: usize, state: usize) -> u16
+    requires { ⌜ (level ≤ statesMost * depthMost) × (state < statesMost) ⌝ }
+    ensures { λ r. ⌜ r ≡ level + state ⌝ }
 {
-    (x / 256 % 16384 + x / 18014398509481984 % 8 * 16384) as u32
-}
-
-// How many children a rule has.
-fn kids(x: u64) -> usize
-    ensures { λ r. ⌜ (r ≡ x / 18014398509481984 % 8) × (r < 8) ⌝ }
-{
-    (x / 18014398509481984 % 8) as usize
-}
-
-// Where the index's number for a waiting number's state and a symbol stands.
-fn entry_of(next: u64, f: usize) -> usize
-    requires { ⌜ f < 64 ⌝ }
-    ensures { λ r. ⌜ (r ≡ next % 64 * 64 + f) × (r < 4096) ⌝ }
-{
-    (next % 64) as usize * 64 + f
-}
-
-// 64 for each symbol above the children of a waiting number's symbol.
-fn level_below(next: u64) -> u64
-    requires { ⌜ next ≤ 4095 ⌝ }
-    ensures { λ r. ⌜ (r ≡ 64 * suc (next / 64)) × (r ≤ 4096) ⌝ }
-{
-    next - next % 64 + 64
-}
-
-// The waiting number of a rule's first child: its state in the rule's number, with 64 for each symbol above it.
-fn first_child(x: u64, level: u64) -> u64
-    requires { ⌜ level ≤ 4096 ⌝ }
-    ensures { λ r. ⌜ r ≡ level + x / 4194304 % 64 ⌝ }
-{
-    level + x / 4194304 % 64
-}
-
-// The same for a child behind the first, whose state stands from a unit on.
-fn child(x: u64, unit: u64, level: u64) -> u16
-    requires { ⌜ (0 < unit) × (level ≤ 4096) ⌝ }
-    ensures { λ r. ⌜ r ≡ level + x / unit % 64 ⌝ }
-{
-    (level + x / unit % 64) as u16
+    (level + state) as u16
 }
 
 // The number that comes next: what waits below if a rule has no children, else the first child's.
-fn next_of(kids: usize, below: u16, first: u64) -> u64
+fn next_of(kids: usize, below: u16, first: usize) -> usize
     ensures { λ r. ⌜ NextIs kids below first r ⌝ }
 {
-    if kids == 0 { below as u64 } else { first }
+    if kids == 0 { below as usize } else { first }
 }
 
-// Whether the loop can go through tree bytes from state q on, with a place of the plan for each.
-fn ready(tree: &[u8], plan: &[u32], q: usize) -> bool
-    ensures { λ r. ⌜ Told (Ready (now (tree .entry)) (now (plan .entry)) q) r ⌝ }
+// Whether the loop can go through tree bytes, with a place of the plan for each.
+fn ready(tree: &[u8], plan: &[u32]) -> bool
+    ensures { λ r. ⌜ Told (Ready (now (tree .entry)) (now (plan .entry))) r ⌝ }
 {
     if tree.len() == 0 {
         return false;
     }
-    if 32768 < tree.len() {
+    if layout::TREE < tree.len() {
         return false;
     }
     if plan.len() < tree.len() {
         return false;
     }
-    if 63 < q {
-        return false;
-    }
     true
 }
 
-// Whether the next turn of the loop meets nothing unusual before the index is looked into.
-fn usual(f: usize, next: u64, top: usize) -> bool
+// Whether the next turn of the loop meets nothing unusual before the table is looked into.
+fn usual(f: usize, next: usize, top: usize) -> bool
     ensures { λ r. ⌜ Told (Usual f next top) r ⌝ }
 {
-    if 63 < f {
+    if layout::SYMBOLS <= f {
         return false;
     }
-    if 4095 < next {
+    if layout::STATES * layout::LEVELS <= next {
         return false;
     }
     if top == 0 {
@@ -118,39 +84,43 @@ fn usual(f: usize, next: u64, top: usize) -> bool
     true
 }
 
-// Measures the tree that tree bytes are, from state q on, and plans its writing: `Other` where they
-// are no tree with a word. The letters are few whatever the index holds.
-pub fn measure(index: &[u64; 4096], tree: &[u8], plan: &mut [u32; 32768], q: usize) -> Tally
-    ensures { λ r. ⌜ ((F : List ℕ) (M : Table) → Opened F (now (index .entry)) M → Tallied F (now (tree .entry)) (now (plan .exit)) M q r) ⌝ }
+// Measures the tree that tree bytes are, from the initial state on, and plans its writing: `Other`
+// where they are no tree with a word. The letters are few whatever the lent numbers are.
+pub fn measure(
+    numbers: &[u64; layout::NUMBERS],
+    tree: &[u8],
+    plan: &mut [u32; layout::TREE],
+) -> Tally
+    ensures { λ r. ⌜ ((F : List ℕ) (M : Table) → Opened F (now (numbers .entry)) M → Tallied F (now (tree .entry)) (now (plan .exit)) M (M .start) r) ⌝ }
     ensures { λ r. ⌜ Few r ⌝ }
 {
-    if !ready(tree, plan, q) {
+    if !ready(tree, plan) {
         return Tally::Other;
     }
     let mut waiting = [0u16; 208];
     waiting[0] = 65535;
     let mut top: usize = 1;
-    let mut next = q as u64;
-    let mut sum: u64 = 0;
+    let mut next = layout::start(numbers);
+    let mut sum: usize = 0;
     let mut at = 0;
     while at < tree.len() {
-        let f = wide(tree[at]);
+        let f = layout::wide(tree[at]);
         if !usual(f, next, top) {
             return Tally::Other;
         }
-        let x = index[entry_of(next, f)];
+        let x = layout::kept_here(numbers, next % layout::STATES, f);
         if x == 0 {
             return Tally::Other;
         }
-        plan[at] = plan_of(x);
-        sum = sum + counts(x);
+        plan[at] = plan_of(numbers, x);
+        sum = sum + layout::letters_in(x);
         let level = level_below(next);
         let below = waiting[top - 1];
-        let first = first_child(x, level);
-        waiting[top] = child(x, 68719476736, level);
-        waiting[top + 1] = child(x, 4398046511104, level);
-        waiting[top + 2] = child(x, 281474976710656, level);
-        let k = kids(x);
+        let first = level + layout::first_in(x);
+        waiting[top] = child(level, layout::later_in(x, 0));
+        waiting[top + 1] = child(level, layout::later_in(x, 1));
+        waiting[top + 2] = child(level, layout::later_in(x, 2));
+        let k = layout::kids_in(x);
         next = next_of(k, below, first);
         top = top + k - 1;
         at += 1;
@@ -160,6 +130,6 @@ pub fn measure(index: &[u64; 4096], tree: &[u8], plan: &mut [u32; 32768], q: usi
     }
     // The rest of the division is the sum; with it the compiler keeps nothing but the sum in the loop.
     Tally::Counted {
-        letters: (sum % 268435456) as usize,
+        letters: sum % 268435456,
     }
 }

@@ -2,17 +2,15 @@
 use mathlib.Core.Path.{_≡_, refl, sym, ap, _∙_}
 use mathlib.Core.List.{List, [], _∷_, _++_, append-assoc}
 use mathlib.Core.Option.{Option, none, some}
-use Prim.Native.Nat.{ℕ, _+_, _-_, _<_, _≤_}
+use Prim.Native.Nat.{ℕ, suc, _+_, _<_, _≤_}
+use native.Mathlib.Nat.{add-zero}
 use native.Mathlib.Omega.{arith}
-use lib.ListN.{length, getD, drop, length-append}
-use Rattle.machine.specs.Machine.{Tree, Forest, ∅, _▸_, Child, Table}
+use lib.ListN.{length, drop, length-append}
+use Rattle.machine.specs.Machine.{Tree, Forest, ∅, _▸_, Child, Rule, Table}
 use Rattle.trees.specs.Preorder.{preorder, preorders, Levelss}
 use Rattle.trees.specs.Lacking.{orElse, lacks, lackss}
-use Rattle.layout.specs.Leaves.{behindAt, Tame}
-use Rattle.layout.specs.declared.Place.{Place}
-use Rattle.layout.specs.declared.Lookup.{Lookup}
-use Rattle.layout.specs.declared.Lookup.the-variants.{Found}
-use Rattle.layout.proofs.Stretches.{further, child-state, child-behind}
+use Rattle.layout.specs.Leaves.{Holds, stateNo}
+use Rattle.layout.proofs.Stretches.{further}
 use Rattle.walk.specs.Walked.{Stands, walked, Onward}
 use Rattle.walk.specs.declared.Walk.{Walk}
 use Rattle.walk.specs.declared.Walk.the-variants.{Ends, Lacks}
@@ -36,12 +34,8 @@ onward-ends at len r next e h = rw e at h
 pub onward-lacks : (at len : ℕ) (r : Walk) (p : ℕ) → r ≡ Lacks p → Onward at len r
 onward-lacks at len r p e = rw e tt
 
--- The bounds of a place that was found.
-pub tame-found : (r : Lookup) (p : Place) → r ≡ Found p → Tame r → (p .at < 16384) × (p .kids < 8)
-tame-found r p e h = let k : Tame (Found p) = rw e at h in (k .0, k .1)
-
-module _ {F I S : List ℕ} {at levels : ℕ} {M : Table} {t : Tree} (stands : Stands F I S at levels M t) (below q left next pos : ℕ) where
-  module _ (c : Child) (cs : List Child) (t₁ : Tree) (ts : Forest) (h : Left F S at below q M t left next pos (c ∷ cs) (t₁ ▸ ts)) where
+module _ {F I S : List ℕ} {at levels : ℕ} {M : Table} {t : Tree} (stands : Stands F I S at levels M t) (below q x j next : ℕ) where
+  module _ (c : Child) (cs : List Child) (t₁ : Tree) (ts : Forest) (h : Left S at below q M t x j next (c ∷ cs) (t₁ ▸ ts)) where
     -- The first of the trees that are left stands at the place that was reached.
     child-stands : Stands F I S next below M t₁
     unfolding preorders Levelss
@@ -59,59 +53,69 @@ module _ {F I S : List ℕ} {at levels : ℕ} {M : Table} {t : Tree} (stands : S
     child-first = h .lacking
 
     -- Behind a child that lacks nothing, the others are left.
-    child-passed : (after pos′ : ℕ) → lacks M (c .state) t₁ next ≡ none → after ≡ next + length (preorder t₁) → pos′ ≡ behindAt F (pos + 1)
-        → Left F S at below q M t (left - 1) after pos′ cs ts
-    unfolding preorders Levelss
-    child-passed after pos′ e n b =
+    child-passed : (after : ℕ) → lacks M (c .state) t₁ next ≡ none → after ≡ next + length (preorder t₁) → Left S at below q M t x (j + 1) after cs ts
+    unfolding preorders Levelss stateNo
+    child-passed after e n =
         record {
+          number = h .number;
+          rule = h .rule;
+          holds = h .holds;
           kids = omega (arith, h .kids);
+          states = λ k. ap (stateNo (h .rule .rest)) (one-more k) ∙ h .states (suc k);
           trees = omega (arith, h .trees);
           ranked = h .ranked .1;
           levels = h .levels .1;
-          rule-behind = h .rule-behind;
-          rule = ap (λ (x : ℕ). drop x F) b ∙ child-behind F pos c cs (h .rule-behind) (h .rule);
           behind = h .behind;
           bytes =
-              ap (λ (x : ℕ). drop x S) n
+              ap (λ (k : ℕ). drop k S) n
               ∙ further S next (preorder t₁) (preorders ts ++ h .behind) (h .bytes ∙ append-assoc (preorder t₁) (preorders ts) (h .behind));
           end = omega (arith, n, h .end, length-append (preorder t₁) (preorders ts));
           lacking = child-first ∙ rw (e, n) refl;
         }
+      where
+        one-more : (k : ℕ) → j + 1 + k ≡ j + suc k
+        one-more k = omega arith
 
-  module _ (g : Going F S at below q M t left next pos) where
+  module _ (g : Going S at below q M t x j next) (many : ℕ) (told-many : (i : ℕ) (r : Rule) → Holds x i r → many ≡ length (r .rest)) where
     -- Where no child is left, nothing is lacking, and the tree ends there.
-    pub going-last : left ≤ 0 → Ends next ≡ walked (lacks M q t at) (at + length (preorder t))
+    pub going-last : many ≤ j → Ends next ≡ walked (lacks M q t at) (at + length (preorder t))
     unfolding lackss preorders
     going-last z = go (g .0) (g .1) (g .2)
       where
-        go : (cs : List Child) (ts : Forest) → Left F S at below q M t left next pos cs ts → Ends next ≡ walked (lacks M q t at) (at + length (preorder t))
+        go : (cs : List Child) (ts : Forest) → Left S at below q M t x j next cs ts → Ends next ≡ walked (lacks M q t at) (at + length (preorder t))
         go [] ∅ h = let e : at + length (preorder t) ≡ next = omega (arith, h .end) in rw (h .lacking, e)
-        go (c ∷ cs) ts h = absurd (omega (arith, h .kids))
+        go (c ∷ cs) ts h = absurd (omega (arith, h .kids, told-many (h .number) (h .rule) (h .holds)))
         go [] (t₁ ▸ ts) h = absurd (omega (arith, h .trees))
 
-    module _ (due : 0 < left) (s : ℕ) (es : s ≡ getD F pos 0) (r : Walk)
-        (told : (t′ : Tree) → Stands F I S next below M t′ → r ≡ walked (lacks M s t′ next) (next + length (preorder t′))) where
+    module _ (due : j < many) (s : ℕ) (told-state : (i : ℕ) (r : Rule) → Holds x i r → j < length (r .rest) → s ≡ stateNo (r .rest) j) (w : Walk)
+        (told : (t′ : Tree) → Stands F I S next below M t′ → w ≡ walked (lacks M s t′ next) (next + length (preorder t′))) where
+      -- The state is that of the first of the children that are left.
+      child-state : (c : Child) (cs : List Child) (ts : Forest) → Left S at below q M t x j next (c ∷ cs) ts → s ≡ c .state
+      unfolding stateNo
+      child-state c cs ts h =
+          told-state (h .number) (h .rule) (h .holds) (omega (arith, h .kids)) ∙ ap (stateNo (h .rule .rest)) (sym (add-zero j)) ∙ h .states 0
+
       -- A child that lacks nothing is passed.
-      pub going-next : (after pos′ : ℕ) → r ≡ Ends after → pos′ ≡ behindAt F (pos + 1) → Going F S at below q M t (left - 1) after pos′
-      going-next after pos′ e b = go (g .0) (g .1) (g .2)
+      pub going-next : (after : ℕ) → w ≡ Ends after → Going S at below q M t x (j + 1) after
+      going-next after e = go (g .0) (g .1) (g .2)
         where
-          go : (cs : List Child) (ts : Forest) → Left F S at below q M t left next pos cs ts → Going F S at below q M t (left - 1) after pos′
-          go [] ts h = absurd (omega (arith, h .kids))
+          go : (cs : List Child) (ts : Forest) → Left S at below q M t x j next cs ts → Going S at below q M t x (j + 1) after
+          go [] ts h = absurd (omega (arith, h .kids, told-many (h .number) (h .rule) (h .holds)))
           go (c ∷ cs) ∅ h = absurd (omega (arith, h .trees))
           go (c ∷ cs) (t₁ ▸ ts) h =
-              let k = es ∙ child-state F pos c cs (h .rule-behind) (h .rule) in
+              let k = child-state c cs (t₁ ▸ ts) h in
               let m = walked-ends (lacks M s t₁ next) (next + length (preorder t₁)) after (sym e ∙ told t₁ (child-stands c cs t₁ ts h)) in
-              (cs, ts, child-passed c cs t₁ ts h after pos′ (ap (λ (x : ℕ). lacks M x t₁ next) (sym k) ∙ m .0) (m .1) b)
+              (cs, ts, child-passed c cs t₁ ts h after (ap (λ (y : ℕ). lacks M y t₁ next) (sym k) ∙ m .0) (m .1))
 
       -- What a child lacks, the whole lacks.
-      pub going-lost : (p : ℕ) → r ≡ Lacks p → r ≡ walked (lacks M q t at) (at + length (preorder t))
+      pub going-lost : (p : ℕ) → w ≡ Lacks p → w ≡ walked (lacks M q t at) (at + length (preorder t))
       going-lost p e = go (g .0) (g .1) (g .2)
         where
-          go : (cs : List Child) (ts : Forest) → Left F S at below q M t left next pos cs ts → r ≡ walked (lacks M q t at) (at + length (preorder t))
-          go [] ts h = absurd (omega (arith, h .kids))
+          go : (cs : List Child) (ts : Forest) → Left S at below q M t x j next cs ts → w ≡ walked (lacks M q t at) (at + length (preorder t))
+          go [] ts h = absurd (omega (arith, h .kids, told-many (h .number) (h .rule) (h .holds)))
           go (c ∷ cs) ∅ h = absurd (omega (arith, h .trees))
           go (c ∷ cs) (t₁ ▸ ts) h =
-              let k = es ∙ child-state F pos c cs (h .rule-behind) (h .rule) in
+              let k = child-state c cs (t₁ ▸ ts) h in
               let m = walked-lacks (lacks M s t₁ next) (next + length (preorder t₁)) p (sym e ∙ told t₁ (child-stands c cs t₁ ts h)) in
-              let w = ap (λ (x : ℕ). lacks M x t₁ next) (sym k) ∙ m in
-              e ∙ rw (child-first c cs t₁ ts h, w) refl
+              let i = ap (λ (y : ℕ). lacks M y t₁ next) (sym k) ∙ m in
+              e ∙ rw (child-first c cs t₁ ts h, i) refl

@@ -1,4 +1,4 @@
--- The plan of a tree: for each position where the rule stands that writes there. Definitions only.
+-- The plan of a tree: for each position the rule that writes there. Definitions only.
 use mathlib.Core.Path.{_≡_}
 use mathlib.Core.List.{List, [], _∷_}
 use mathlib.Core.Option.{some}
@@ -6,12 +6,16 @@ use Prim.Native.Nat.{ℕ, suc, _+_, _/_, _%_}
 use lib.ListN.{length, getD}
 use Rattle.machine.specs.Machine.{Tree, Forest, node, ∅, _▸_, Child, Rule, Table, find}
 use Rattle.trees.specs.Preorder.{preorder}
-use Rattle.layout.specs.Leaves.{RuleAt}
+use Rattle.layout.specs.Leaves.{Spot}
 
--- The plan's number at a position names rule r: where its bytes stand, and from 16,384 on how many children it has.
+-- From this unit on a plan's number tells how many children a rule has, and below it the spot of its first word.
+abbrev pub planUnit : ℕ
+planUnit = 131072
+
+-- The plan's number at a position names rule r: the spot of its first word, and how many children it has.
 pub record Names (F : List ℕ) (x : ℕ) (r : Rule) : Type 0 where
-  pub there : RuleAt F (x % 16384) r
-  pub kids : x / 16384 ≡ length (r .rest)
+  pub there : Spot F (r .first) (r .rest) (x % planUnit)
+  pub kids : x / planUnit ≡ length (r .rest)
 
 -- The plan P names, for each symbol of the tree at `at`, the rule of the state that comes to it, from state q at the root on.
 unfoldable mutual

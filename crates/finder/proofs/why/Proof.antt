@@ -7,16 +7,18 @@ use Rattle.finder.proofs.why.Tie as tie
 returns : tie.Need-returns
 returns c =
     let checked = c .before .before .before .check in
-    λ M o e n. shape-answers (record { opened = o; is = e; checked = checked .ensures }) _ (c .before .refusal .given .1)
+    λ M o n. shape-answers (record { opened = o; checked = checked .ensures M o }) _ (c .before .refusal .given .1)
 
 returns-2 : tie.Need-returns-2
 returns-2 c =
-    let told = c .before .before in
-    let checked = told .before .before .check in
     let walk = c .before .lacking in
-    λ M o e n.
+    let begun = c .before .before in
+    let told = begun .before in
+    let checked = told .before .before .check in
+    λ M o n.
     rw (c .place-of .ensures)
-    (lacking-answers (record { opened = o; is = e; checked = checked .ensures }) _ (told .enum-told .given .1) n (walk .result) (walk .ensures .0))
+    (lacking-answers (record { opened = o; checked = checked .ensures M o }) _ (told .enum-told .given .1) n
+    (begun .start .result) (begun .start .ensures .1 _ M o) (walk .result) (walk .ensures .0))
 
 pub why-spec : {M : Type 1} → statement M
 why-spec =
@@ -25,6 +27,7 @@ why-spec =
     (λ c κs. search needs)
     (λ c. search needs)
     (λ c. search needs)
+    (λ c κs. search needs)
     (λ c κs. search needs)
     (λ c κs. search needs)
     returns

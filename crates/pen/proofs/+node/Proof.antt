@@ -1,10 +1,13 @@
--- `node` writes the word of a planned tree. Before a word is put the room has what is written in front, and that word and what the children left are to write make the word whole; whatever the bytes are, every place is inside and behind the one before. The measures are the levels allowed, and the children left. Assumes nothing.
+-- `node` writes the word of a planned tree. Before a word is put the room has what is written in front, and that word and what the children left are to
+-- write make the word whole; whatever the bytes are, every place is inside and behind the one before. The measures are the levels allowed, and the
+-- children left. Assumes nothing.
 use mathlib.Core.Path.{_≡_, refl, _∙_}
-use Prim.Native.Nat.{ℕ, _+_, _-_, _<_, _≤_}
+use Prim.Native.Nat.{ℕ, _-_, _<_, _≤_}
 use native.Mathlib.Omega.{arith}
 use lib.ListN.{length}
 use borrow.Author.Needs.{needs}
 use borrow.Author.Tests.{not-true, not-false}
+use Rattle.trees.specs.Shape.{treeMost}
 use Rattle.pen.specs.Penned.{GoesOn}
 use Rattle.pen.proofs.Going.{Going, Called, stop-nothing, stopped, going-first, going-last, going-more, called-long, called-letters}
 use borrow.Fn.Kinds.{In}
@@ -12,10 +15,10 @@ use borrow.Fn.PlainCycle.{Measures, is, falls, and}
 use Rattle.pen.proofs.node.Reads as node
 use Rattle.pen.proofs.node.Kinds as node-kinds
 use Rattle.pen.proofs.+node.Lts-node as node-lts
-use Rattle.pen.proofs.narrow.Reads as narrow-reads
+use Rattle.layout.proofs.put_word.Reads as put-word-reads
+use Rattle.layout.proofs.spot_behind.Reads as spot-behind-reads
 use Rattle.pen.proofs.goes_on.Reads as goes-on-reads
-use Rattle.pen.proofs.put.Reads as put-reads
-use Rattle.pen.proofs.wide.Reads as wide-reads
+use Rattle.pen.proofs.narrow.Reads as narrow-reads
 use Rattle.pen.proofs.+node.{statement}
 use Rattle.pen.proofs.+node.Tie.{close}
 
@@ -29,18 +32,29 @@ abbrev node-below : ℕ → In 3 node-kinds.ps
 node-below t = and 3 node-kinds.ps (falls 3 node-kinds.ps _<_ μ-node t) node.Pre
 
 abbrev K : ℕ → node-lts.Claims
-K t = (narrow-reads.Asked, narrow-reads.Learnt, put-reads.Asked, put-reads.Learnt, goes-on-reads.Asked, goes-on-reads.Learnt, wide-reads.Asked, wide-reads.Learnt, node-below t, node.Post)
+K t = (
+  narrow-reads.Asked,
+  narrow-reads.Learnt,
+  put-word-reads.Asked,
+  put-word-reads.Learnt,
+  goes-on-reads.Asked,
+  goes-on-reads.Learnt,
+  spot-behind-reads.Asked,
+  spot-behind-reads.Learnt,
+  node-below t,
+  node.Post,
+)
 
 abbrev node-Inv-loop : node-lts.InvT-loop
-node-Inv-loop levels plan frames at room₀ lower entry from₀ left₀ end₀ next₀ room from left end next =
-    Going frames plan levels at (length room₀) room end next left from
+node-Inv-loop levels plan frames at room₀ lower entry p₀ left₀ end₀ next₀ room p left end next =
+    Going frames plan levels at (length room₀) room end next left p
     × (end ≤ length room)
     × (length room ≡ length room₀)
-    × (next ≤ 32768)
+    × (next ≤ treeMost)
     × (at < next)
 
 abbrev node-μ-loop : node-lts.MeasureT-loop
-node-μ-loop levels plan frames at room₀ lower entry from₀ left₀ end₀ next₀ room from left end next = left
+node-μ-loop levels plan frames at room₀ lower entry p₀ left₀ end₀ next₀ room p left end next = left
 
 -- ---- what is known at the places, at the measure t
 module _ (t : ℕ) where
@@ -53,7 +67,7 @@ module _ (t : ℕ) where
 
   -- A word is put.
   abbrev Written : Type 0
-  Written = node-lts.After-put (K t) (node-at t) node.Post node-Inv-loop node-μ-loop
+  Written = node-lts.After-put-word (K t) (node-at t) node.Post node-Inv-loop node-μ-loop
 
   -- The call for a child has answered.
   abbrev Answered : Type 0
@@ -67,7 +81,7 @@ module _ (t : ℕ) where
   written-turn c = c .before .before
 
   abbrev answered-written : Answered → Written
-  answered-written c = c .before .before .before .before .before .before .before .before .before
+  answered-written c = c .before .before .before .before .before .before .before .before
 
   -- A child can be called for.
   abbrev Calling : Type 0
@@ -76,7 +90,7 @@ module _ (t : ℕ) where
   goes : (c : Calling) →
       let p = c .before .before .before .before .before in
       let l = written-turn p .loop in
-      GoesOn (turn-start (written-turn p) .args .levels - 1) (l .next) (l .from)
+      GoesOn (turn-start (written-turn p) .args .levels - 1) (l .next) (l .p)
   goes c = c .before .goes-on .ensures .if-true (not-false _ (c .if2 .left))
 
   -- What the call for a child did.
@@ -84,15 +98,15 @@ module _ (t : ℕ) where
       let p = answered-written c in
       let l = written-turn p .loop in
       let a = turn-start (written-turn p) .args in
-      Called (a .frames .now) (a .plan .now) (a .levels) (l .room) (l .end) (l .next) (l .left) (l .from) (p .put .last .1 .1 .0) (p .put .result) (c .node .last .1 .1 .1 .1 .0) (c .node .result)
+      Called (a .frames .now) (a .plan .now) (a .levels) (l .room) (l .end) (l .next) (l .left) (l .p) (p .put-word .last .1 .1 .0)
+      (p .put-word .result) (c .node .last .1 .1 .1 .1 .0) (c .node .result)
   called c =
       let p = answered-written c in
       record {
-        put = p .put .ensures;
-        kept = p .put .kept .1 .1 .0;
+        put = p .put-word .ensures;
         pens = c .node .ensures .0;
         tidy = c .node .ensures .1 .0;
-        kids = c .before .before .before .before .before .before .if1 .left;
+        kids = c .before .before .before .before .before .if1 .left;
       }
 
 -- ---- the needs
@@ -114,10 +128,12 @@ node-add-next t c = search needs
 node-loop-holds : (t : ℕ) → node-lts.Need-loop-holds (K t) (node-at t) node.Post node-Inv-loop node-μ-loop
 node-loop-holds t c =
     let a = c .before .before .before .args in
-    (going-first (a .frames .now) (a .plan .now) (a .levels) (a .at) (length (a .room .now)) (a .room .now) (c .narrow .result) (c .narrow .ensures), omega arith, refl, omega arith, omega arith)
+    let first =
+    going-first (a .frames .now) (a .plan .now) (a .levels) (a .at) (length (a .room .now)) (a .room .now) (c .narrow .result) (c .narrow .ensures) in
+    (first, omega arith, refl, omega arith, omega arith)
 
-node-put-requires : (t : ℕ) → node-lts.Need-put-requires (K t) (node-at t) node.Post node-Inv-loop node-μ-loop
-node-put-requires t c κs = search needs
+node-put-word-requires : (t : ℕ) → node-lts.Need-put-word-requires (K t) (node-at t) node.Post node-Inv-loop node-μ-loop
+node-put-word-requires t c κs = search needs
 
 node-mul-result : (t : ℕ) → node-lts.Need-mul-result (K t) (node-at t) node.Post node-Inv-loop node-μ-loop
 node-mul-result t c = search needs
@@ -132,8 +148,9 @@ node-returns : (t : ℕ) → node-lts.Need-returns (K t) (node-at t) node.Post n
 node-returns t c =
     let p : Written t = c .before .before .before in
     let l = written-turn t p .loop in (
-      going-last (l .inv .0) (l .inv .2) (p .put .last .1 .1 .0) (p .put .result) (p .put .ensures) (c .if1 .taken),
-      stopped (p .put .kept .1 .1 .0 ∙ l .inv .2) (omega (arith, p .put .ensures .within, l .inv .2)) (omega (arith, l .inv .3)) (omega (arith, l .inv .4)),
+      going-last (l .inv .0) (l .inv .2) (p .put-word .last .1 .1 .0) (p .put-word .result) (p .put-word .ensures) (c .if1 .taken),
+      stopped (p .put-word .ensures .long ∙ l .inv .2) (omega (arith, p .put-word .ensures .within, l .inv .2)) (omega (arith, l .inv .3))
+          (omega (arith, l .inv .4)),
     )
 
 node-goes-on-requires : (t : ℕ) → node-lts.Need-goes-on-requires (K t) (node-at t) node.Post node-Inv-loop node-μ-loop
@@ -152,21 +169,14 @@ node-returns-2 : (t : ℕ) → node-lts.Need-returns-2 (K t) (node-at t) node.Po
 node-returns-2 t c =
     let p : Written t = c .before .before .before .before .before in
     let l = written-turn t p .loop in (
-      λ M q u w d. absurd (stop-nothing (l .inv .0) (l .inv .2) (c .before .before .if1 .left) (c .before .goes-on .ensures .if-false (not-true _ (c .if2 .taken))) M q u w d),
-      stopped (p .put .kept .1 .1 .0 ∙ l .inv .2) (omega (arith, p .put .ensures .within, l .inv .2)) (omega (arith, l .inv .3)) (omega (arith, l .inv .4)),
+      λ M q u w d. absurd
+          (stop-nothing (l .inv .0) (l .inv .2) (c .before .before .if1 .left) (c .before .goes-on .ensures .if-false (not-true _ (c .if2 .taken))) M q u w d),
+      stopped (p .put-word .ensures .long ∙ l .inv .2) (omega (arith, p .put-word .ensures .within, l .inv .2)) (omega (arith, l .inv .3))
+          (omega (arith, l .inv .4)),
     )
 
-node-add-from : (t : ℕ) → node-lts.Need-add-from (K t) (node-at t) node.Post node-Inv-loop node-μ-loop
-node-add-from t c = let g = goes t c in omega (arith, g .byte)
-
-node-element-copy-out-wide : (t : ℕ) → node-lts.Need-element-copy-out-wide (K t) (node-at t) node.Post node-Inv-loop node-μ-loop
-node-element-copy-out-wide t c = let g = goes t c in omega (arith, g .byte)
-
-node-wide-requires : (t : ℕ) → node-lts.Need-wide-requires (K t) (node-at t) node.Post node-Inv-loop node-μ-loop
-node-wide-requires t c κs = search needs
-
-node-add-from-2 : (t : ℕ) → node-lts.Need-add-from-2 (K t) (node-at t) node.Post node-Inv-loop node-μ-loop
-node-add-from-2 t c = let g = goes t (c .before .before) in omega (arith, g .byte, c .wide .ensures .1)
+node-spot-behind-requires : (t : ℕ) → node-lts.Need-spot-behind-requires (K t) (node-at t) node.Post node-Inv-loop node-μ-loop
+node-spot-behind-requires t c κs = goes t c .spot
 
 node-sub-node : (t : ℕ) → node-lts.Need-sub-node (K t) (node-at t) node.Post node-Inv-loop node-μ-loop
 node-sub-node t c = search needs
@@ -178,7 +188,7 @@ node-part-node-end : (t : ℕ) → node-lts.Need-part-node-end (K t) (node-at t)
 node-part-node-end t c = search needs
 
 node-node-requires : (t : ℕ) → node-lts.Need-node-requires (K t) (node-at t) node.Post node-Inv-loop node-μ-loop
-node-node-requires t c κs = let g = goes t (c .before .before .before) in let l = g .level in let h = g .place in search needs
+node-node-requires t c κs = let g = goes t (c .before .before) in let l = g .level in let h = g .place in search needs
 
 node-add-end : (t : ℕ) → node-lts.Need-add-end (K t) (node-at t) node.Post node-Inv-loop node-μ-loop
 node-add-end t c = search needs
@@ -195,9 +205,9 @@ node-loop-again t c =
     let b = called t r in
     let p : Written t = answered-written t r in
     let l = written-turn t p .loop in
-    let w = r .before .before .wide in
-    let g = goes t (r .before .before .before .before) in (
-      going-more b (l .inv .0) (l .inv .2) (l .from + 2 + w .result) (omega (arith, w .ensures .0)),
+    let o = r .before .before .spot-behind in
+    let g = goes t (r .before .before .before) in (
+      going-more b (l .inv .0) (l .inv .2) (o .result) (o .ensures),
       omega (arith, called-long b, called-letters b),
       called-long b ∙ l .inv .2,
       b .tidy .place,
@@ -216,7 +226,7 @@ pub +node-spec : {M : Type 1} → statement M
     (node-narrow-requires t)
     (node-add-next t)
     (node-loop-holds t)
-    (node-put-requires t)
+    (node-put-word-requires t)
     (node-mul-result t)
     (node-add-result t)
     (node-same-length t)
@@ -226,10 +236,7 @@ pub +node-spec : {M : Type 1} → statement M
     (node-add-result-2 t)
     (node-same-length-2 t)
     (node-returns-2 t)
-    (node-add-from t)
-    (node-element-copy-out-wide t)
-    (node-wide-requires t)
-    (node-add-from-2 t)
+    (node-spot-behind-requires t)
     (node-sub-node t)
     (node-part-node-start t)
     (node-part-node-end t)

@@ -11,10 +11,10 @@ returns-2 : tie.Need-returns-2
 returns-2 c = told-no (λ u. omega (arith, u .place, c .if2 .taken))
 
 returns-3 : tie.Need-returns-3
-returns-3 c = told-no (λ u. omega (arith, u .byte, c .if3 .taken))
+returns-3 c = told-no (λ u. omega (arith, u .spot, c .if3 .taken))
 
 returns-4 : tie.Need-returns-4
-returns-4 c = told-yes (record { level = omega (arith, c .before .before .if1 .left); place = omega arith; byte = omega arith })
+returns-4 c = told-yes (record { level = omega (arith, c .before .before .if1 .left); place = omega arith; spot = omega arith })
 
 pub goes-on-spec : {M : Type 1} → statement M
 goes-on-spec = tie.close (tie.spec returns returns-2 returns-3 returns-4)

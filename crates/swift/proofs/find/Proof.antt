@@ -9,7 +9,7 @@ returns c =
     let told = c .before .before .before in
     let m = told .before .before in
     let a = m .before .before .before .before .args in
-    λ M o e. tally-other (a .tree .now) _ (m .measure .result) (a .room .now) (m .measure .ensures .0 _ M o) (told .enum-told .given .1) o e (c .why .ensures)
+    λ M o. tally-other (a .tree .now) _ (m .measure .result) (a .room .now) (m .measure .ensures .0 _ M o) (told .enum-told .given .1) o (c .why .ensures)
 
 write-requires : tie.Need-write-requires
 write-requires c κs =
@@ -22,7 +22,7 @@ returns-2 c =
     let write = c .before .before in
     let counted = write .before .before .before .before in
     let m = counted .before .before .measure in
-    λ M o e. write .write .ensures _ _ M o e (tally-counted _ (m .ensures .0 _ M o) (counted .counted .given .1) e)
+    λ M o. write .write .ensures _ M o (tally-counted _ (m .ensures .0 _ M o) (counted .counted .given .1))
 
 pub find-spec : {M : Type 1} → statement M
 find-spec =

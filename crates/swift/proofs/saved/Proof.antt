@@ -1,11 +1,11 @@
 -- `saved` reads 32 bytes: the first i of the piece are those of the room. Assumes nothing.
 use mathlib.Core.Path.{_≡_, refl, sym, _∙_}
-use Prim.Native.Nat.{_+_, _-_, _≤_}
+use Prim.Native.Nat.{_-_, _≤_}
 use native.Mathlib.Omega.{arith}
 use borrow.Author.Needs.{needs}
 use lib.ListN.{length, take, drop, length-set}
 use lib.Seq.{take-all}
-use Rattle.pen.proofs.Room.{piece-grows}
+use Rattle.layout.proofs.Putting.{piece-grows}
 use Rattle.swift.proofs.saved.Statement.{statement}
 use Rattle.swift.proofs.saved.Tie as tie
 

@@ -14,11 +14,7 @@ returns-3 : tie.Need-returns-3
 returns-3 c = told-no (λ h. omega (arith, h .places, c .if3 .taken))
 
 returns-4 : tie.Need-returns-4
-returns-4 c = told-no (λ h. omega (arith, h .state, c .if4 .taken))
-
-returns-5 : tie.Need-returns-5
-returns-5 c =
-    told-yes (record { some = omega (arith, c .before .before .before .if1 .left); short = omega arith; places = omega arith; state = omega arith })
+returns-4 c = told-yes (record { some = omega (arith, c .before .before .if1 .left); short = omega arith; places = omega arith })
 
 pub ready-spec : {M : Type 1} → statement M
-ready-spec = tie.close (tie.spec returns returns-2 returns-3 returns-4 returns-5)
+ready-spec = tie.close (tie.spec returns returns-2 returns-3 returns-4)

@@ -1,5 +1,6 @@
 -- `usual` meets its contract. Assumes nothing.
 use native.Mathlib.Omega.{arith}
+use borrow.Author.Needs.{needs}
 use Rattle.words.proofs.Told.{told-yes, told-no}
 use Rattle.tally.proofs.usual.Statement.{statement}
 use Rattle.tally.proofs.usual.Tie as tie
@@ -20,4 +21,4 @@ returns-5 : tie.Need-returns-5
 returns-5 c = told-yes (record { symbol = omega arith; levels = omega arith; waits = omega (arith, c .before .if3 .left); room = omega arith })
 
 pub usual-spec : {M : Type 1} → statement M
-usual-spec = tie.close (tie.spec returns returns-2 returns-3 returns-4 returns-5)
+usual-spec = tie.close (tie.spec returns (λ c. search needs) returns-2 returns-3 returns-4 returns-5)

@@ -1,4 +1,4 @@
--- `store` writes 16 bytes: after i bytes the room is the one at entry with the first i of them pasted over it. Assumes nothing.
+-- `store` writes 16 bytes: after i bytes the room is the one at entry with the first i of them pasted over it.
 use mathlib.Core.Path.{_≡_, refl, sym, ap, _∙_}
 use mathlib.Core.List.{List, _++_}
 use Prim.Native.Nat.{ℕ, _+_, _-_, _≤_}
@@ -7,8 +7,8 @@ use native.Mathlib.Omega.{arith}
 use borrow.Author.Needs.{needs}
 use lib.ListN.{length, take, drop, set, getD, length-set}
 use lib.Seq.{paste, paste-zero, paste-suc, take-all}
-use Rattle.pen.proofs.store.Statement.{statement}
-use Rattle.pen.proofs.store.Tie as tie
+use Rattle.layout.proofs.copy.store.Statement.{statement}
+use Rattle.layout.proofs.copy.store.Tie as tie
 
 abbrev Inv-loop : tie.InvT-loop
 Inv-loop room₀ at piece i₀ room i = (i ≤ 16) × (room ≡ paste room₀ at piece i) × (length room ≡ length room₀)
@@ -18,21 +18,6 @@ abbrev μ-loop : tie.MeasureT-loop
 
 loop-holds : tie.Need-loop-holds Inv-loop μ-loop
 loop-holds c = (search needs, paste-zero (c .args .room .now) (c .args .at) (c .args .t1), refl)
-
-array-read-room : tie.Need-array-read-room Inv-loop μ-loop
-array-read-room c = search needs
-
-add-room : tie.Need-add-room Inv-loop μ-loop
-add-room c = search needs
-
-slice-write-room : tie.Need-slice-write-room Inv-loop μ-loop
-slice-write-room c = search needs
-
-add-i : tie.Need-add-i Inv-loop μ-loop
-add-i c = search needs
-
-loop-less : tie.Need-loop-less Inv-loop μ-loop
-loop-less c = search needs
 
 loop-again : tie.Need-loop-again Inv-loop μ-loop
 loop-again c =
@@ -45,9 +30,6 @@ loop-again c =
           ∙ ap (λ (k : ℕ). paste (a .room .now) (a .at) (a .t1) k) (sym (add-one (l .i))),
       simp length-set (l .inv .2),
     )
-
-same-length : tie.Need-same-length Inv-loop μ-loop
-same-length c = search needs
 
 returns : tie.Need-returns Inv-loop μ-loop
 returns c =
@@ -66,11 +48,11 @@ store-spec =
     Inv-loop
     μ-loop
     loop-holds
-    array-read-room
-    add-room
-    slice-write-room
-    add-i
-    loop-less
+    (λ c. search needs)
+    (λ c. search needs)
+    (λ c. search needs)
+    (λ c. search needs)
+    (λ c. search needs)
     loop-again
-    same-length
+    (λ c. search needs)
     returns)

@@ -1,13 +1,13 @@
--- `sixteen` reads 16 bytes: the first i of the piece are those of the frames. Assumes nothing.
+-- `sixteen` reads 16 bytes: the first i of the piece are those of the frames.
 use mathlib.Core.Path.{_≡_, refl, sym, _∙_}
 use Prim.Native.Nat.{_+_, _-_, _≤_}
 use native.Mathlib.Omega.{arith}
 use borrow.Author.Needs.{needs}
 use lib.ListN.{length, take, drop, length-set}
 use lib.Seq.{take-all}
-use Rattle.pen.proofs.Room.{piece-grows}
-use Rattle.pen.proofs.sixteen.Statement.{statement}
-use Rattle.pen.proofs.sixteen.Tie as tie
+use Rattle.layout.proofs.Putting.{piece-grows}
+use Rattle.layout.proofs.copy.sixteen.Statement.{statement}
+use Rattle.layout.proofs.copy.sixteen.Tie as tie
 
 abbrev Inv-loop : tie.InvT-loop
 Inv-loop frames from piece₀ i₀ piece i = (i ≤ 16) × (from + 16 ≤ length frames → take i piece ≡ take i (drop from frames)) × (length piece ≡ 16)
@@ -17,21 +17,6 @@ abbrev μ-loop : tie.MeasureT-loop
 
 loop-holds : tie.Need-loop-holds Inv-loop μ-loop
 loop-holds c = (search needs, λ _. refl, refl)
-
-add-piece : tie.Need-add-piece Inv-loop μ-loop
-add-piece c = search needs
-
-element-copy-out-piece : tie.Need-element-copy-out-piece Inv-loop μ-loop
-element-copy-out-piece c = search needs
-
-array-write-piece : tie.Need-array-write-piece Inv-loop μ-loop
-array-write-piece c = search needs
-
-add-i : tie.Need-add-i Inv-loop μ-loop
-add-i c = search needs
-
-loop-less : tie.Need-loop-less Inv-loop μ-loop
-loop-less c = search needs
 
 loop-again : tie.Need-loop-again Inv-loop μ-loop
 loop-again c =
@@ -56,10 +41,10 @@ sixteen-spec =
     Inv-loop
     μ-loop
     loop-holds
-    add-piece
-    element-copy-out-piece
-    array-write-piece
-    add-i
-    loop-less
+    (λ c. search needs)
+    (λ c. search needs)
+    (λ c. search needs)
+    (λ c. search needs)
+    (λ c. search needs)
     loop-again
     returns)

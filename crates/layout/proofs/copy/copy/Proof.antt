@@ -1,4 +1,4 @@
--- `copy` copies n bytes: after i bytes the room is the one at entry with the first i of them pasted over it. Assumes nothing.
+-- `copy` copies n bytes: after i bytes the room is the one at entry with the first i of them pasted over it.
 use mathlib.Core.Path.{_≡_, refl, sym, ap, _∙_}
 use mathlib.Core.List.{List}
 use Prim.Native.Nat.{ℕ, _+_, _-_, _<_, _≤_}
@@ -7,8 +7,8 @@ use native.Mathlib.Omega.{arith}
 use borrow.Author.Needs.{needs}
 use lib.ListN.{length, drop, set, getD, length-set, length-drop}
 use lib.Seq.{paste, paste-zero, paste-suc, getD-drop}
-use Rattle.pen.proofs.copy.Statement.{statement}
-use Rattle.pen.proofs.copy.Tie as tie
+use Rattle.layout.proofs.copy.copy.Statement.{statement}
+use Rattle.layout.proofs.copy.copy.Tie as tie
 
 abbrev Inv-loop : tie.InvT-loop
 Inv-loop frames from room₀ at n i₀ room i = (i ≤ n) × (from + n ≤ length frames → room ≡ paste room₀ at (drop from frames) i) × (length room ≡ length room₀)
@@ -18,24 +18,6 @@ abbrev μ-loop : tie.MeasureT-loop
 
 loop-holds : tie.Need-loop-holds Inv-loop μ-loop
 loop-holds c = (search needs, λ h. paste-zero (c .args .room .now) (c .args .at) (drop (c .args .from) (c .args .frames .now)), refl)
-
-add-room : tie.Need-add-room Inv-loop μ-loop
-add-room c = search needs
-
-element-copy-out-room : tie.Need-element-copy-out-room Inv-loop μ-loop
-element-copy-out-room c = search needs
-
-add-room-2 : tie.Need-add-room-2 Inv-loop μ-loop
-add-room-2 c = search needs
-
-slice-write-room : tie.Need-slice-write-room Inv-loop μ-loop
-slice-write-room c = search needs
-
-add-i : tie.Need-add-i Inv-loop μ-loop
-add-i c = search needs
-
-loop-less : tie.Need-loop-less Inv-loop μ-loop
-loop-less c = search needs
 
 loop-again : tie.Need-loop-again Inv-loop μ-loop
 loop-again c =
@@ -52,9 +34,6 @@ loop-again c =
       simp length-set (l .inv .2),
     )
 
-same-length : tie.Need-same-length Inv-loop μ-loop
-same-length c = search needs
-
 returns : tie.Need-returns Inv-loop μ-loop
 returns c h =
     let l = c .before .loop in
@@ -69,12 +48,12 @@ copy-spec =
     Inv-loop
     μ-loop
     loop-holds
-    add-room
-    element-copy-out-room
-    add-room-2
-    slice-write-room
-    add-i
-    loop-less
+    (λ c. search needs)
+    (λ c. search needs)
+    (λ c. search needs)
+    (λ c. search needs)
+    (λ c. search needs)
+    (λ c. search needs)
     loop-again
-    same-length
+    (λ c. search needs)
     returns)
