@@ -10,3 +10,5 @@ pub mod Means
 pub mod Growing
 pub mod Ranges
 pub mod Spots
+pub mod Strides
+pub mod Listing

@@ -16,6 +16,7 @@ use Rattle.layout.specs.declared.Head.{Head}
 use Rattle.layout.specs.declared.Place.{Place}
 use Rattle.layout.specs.declared.Lookup.{Lookup}
 use Rattle.layout.specs.declared.Lookup.the-variants.{Found, Missing}
+use Rattle.layout.specs.declared.whole.Laid.{Laid}
 use Rattle.layout.specs.declared.RuleOf.{RuleOf}
 use Rattle.layout.specs.declared.RuleOf.the-variants as ruled
 
@@ -122,3 +123,8 @@ pub record RulesOf (M : Table) (q from to : ℕ) : Type 0 where
 pub record Spot (F : List ℕ) (u : Word) (cs : List Child) (p : ℕ) : Type 0 where
   pub behind : List ℕ
   pub bytes : drop p F ≡ textOf u ++ (childrenText cs ++ behind)
+
+-- Where a rule's first word stands in the bytes F, and how many children the rule has.
+pub record LaidOut (F : List ℕ) (r : Rule) (l : Laid) : Type 0 where
+  pub spot : Spot F (r .first) (r .rest) (l .spot)
+  pub kids : l .kids ≡ length (r .rest)

@@ -31,11 +31,21 @@ pub use rule::symbol_of;
 pub use spot::next_spot;
 pub use spot::state_behind;
 pub use spot::word_at;
+pub use stride::letter_at;
+pub use stride::letters_at;
+pub use stride::spot_past;
+pub use stride::state_past;
+pub use whole::Laid;
+pub use whole::kept_at;
+pub use whole::laid_at;
+pub use whole::rules_in;
 
 mod counts;
 mod kept;
 mod rule;
 mod spot;
+mod stride;
+mod whole;
 
 // How many bytes and how many numbers a caller lends for an opened table. The bytes behind the
 // longest table's frames let a word be copied in pieces of 32.

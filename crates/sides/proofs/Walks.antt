@@ -11,11 +11,10 @@ use Rattle.text.specs.Limits.{statesMost, lettersMost}
 use Rattle.ends.specs.Ends.{Side, left, right, end, Ends, unknown, alone, lives, before, beside, along, value, through}
 use Rattle.ends.proofs.Order.{blank-before, before-blank, gather, gathered}
 use Rattle.layout.specs.Layout.{framesSize, Opened}
-use Rattle.layout.specs.Leaves.{RowAt, Spot, Modest}
+use Rattle.layout.specs.Leaves.{RowAt, Spot}
 use Rattle.layout.proofs.Numbered.{row-modest}
 use Rattle.summary.specs.Codes.{decode, K}
 use Rattle.summary.proofs.Tests.{blank-alone}
-use Rattle.sides.specs.Steps.{withChild}
 
 -- ---- from child to child
 -- Children with short words, and states that a table can have.
@@ -42,12 +41,12 @@ pub ahead-begun : {F I : List ℕ} {M : Table} → Opened F I M → (i : ℕ) (r
 ahead-begun o i row e s c = record { spot = s; count = c; small = row-modest (o .limited) i row e .rest }
 
 module _ {F : List ℕ} {u : Word} {p n : ℕ} {cs : List Child} (a : Ahead F u p n cs) where
-  -- One child further on, by what is read at p.
-  pub ahead-more : 0 < n → length F ≡ framesSize → {q s : ℕ}
-      → ((v : Word) (c : Child) (ds : List Child) → Spot F v (c ∷ ds) p → c .state < statesMost → q ≡ c .state)
-      → ((v : Word) (c : Child) (ds : List Child) → length F ≡ framesSize → Spot F v (c ∷ ds) p → Spot F (c .after) ds s)
+  -- One child further on, by what is read behind the word, which has m letters.
+  pub ahead-more : 0 < n → length F ≡ framesSize → {m q s : ℕ} → m ≡ length u
+      → ((v : Word) (c : Child) (ds : List Child) → Spot F v (c ∷ ds) p → m ≡ length v → c .state < statesMost → q ≡ c .state)
+      → ((G : List ℕ) (v : Word) (c : Child) (ds : List Child) → length G ≡ framesSize → Spot G v (c ∷ ds) p → m ≡ length v → Spot G (c .after) ds s)
       → Next F q s (n - 1) cs
-  ahead-more h long {q} {s} state next = go cs (a .spot) (a .count) (a .small)
+  ahead-more h long {m} {q} {s} e state next = go cs (a .spot) (a .count) (a .small)
     where
       go : (ds : List Child) → Spot F u ds p → n ≡ length ds → Small ds → Next F q s (n - 1) ds
       go [] t c l = absurd (omega arith)
@@ -56,8 +55,8 @@ module _ {F : List ℕ} {u : Word} {p n : ℕ} {cs : List Child} (a : Ahead F u 
             child = c;
             rest = ds;
             first = refl;
-            state = state u c ds t (l .0 .1);
-            ahead = record { spot = next u c ds long t; count = omega arith; small = l .1 };
+            state = state u c ds t e (l .0 .1);
+            ahead = record { spot = next F u c ds long t e; count = omega arith; small = l .1 };
           }
 
   -- No child is left.
@@ -86,32 +85,37 @@ pub beside-blank : (side : Side) (x : Ends) → x ≡ beside side x (decode 1024
 beside-blank left x = sym (ap (before x) blank-alone ∙ before-blank x)
 beside-blank right x = sym (ap (λ y. before y x) blank-alone ∙ blank-before x)
 
--- On the way: children are left, and what is gathered makes the rule's summary with theirs.
-pub record Left (side : Side) (F xs : List ℕ) (p n : ℕ) (x : Ends) (r : Rule) : Type 0 where
+-- On the way: the word at spot p has m letters, children are left, and what is gathered makes the rule's summary with theirs.
+pub record Left (side : Side) (F xs : List ℕ) (p m n : ℕ) (x : Ends) (r : Rule) : Type 0 where
   pub word : Word
+  pub long : m ≡ length word
   pub rest : List Child
   pub ahead : Ahead F word p n rest
   pub gathers : beside side x (along side (K xs) rest) ≡ value side (K xs) r
 
 module _ (side : Side) (xs : List ℕ) where
   -- Behind the first word.
-  pub left-begun : {F : List ℕ} {p n : ℕ} (r : Rule) → Ahead F (r .first) p n (r .rest) → (x : Ends) → x ≡ alone (end side (r .first)) → Left side F xs p n x r
-  left-begun r a x e = record { word = r .first; rest = r .rest; ahead = a; gathers = ap (λ y. beside side y (along side (K xs) (r .rest))) e }
+  pub left-begun : {F : List ℕ} {p m n : ℕ} (r : Rule) → Ahead F (r .first) p n (r .rest) → m ≡ length (r .first) → (x : Ends) → x ≡ alone (end side (r .first))
+      → Left side F xs p m n x r
+  left-begun r a l x e =
+      record { word = r .first; long = l; rest = r .rest; ahead = a; gathers = ap (λ y. beside side y (along side (K xs) (r .rest))) e }
 
-  module _ {F : List ℕ} {p n : ℕ} {x : Ends} {r : Rule} (l : Left side F xs p n x r) where
-    -- One child further on.
-    pub left-more : {q s m : ℕ} (t : Next F q s m (l .rest)) → (w : Word) → w ≡ t .child .after → (y : Ends) → y ≡ withChild side x (K xs q) w
-        → Left side F xs s m y r
-    left-more {q} {s} {m} t w ew y e =
+  module _ {F : List ℕ} {p m n : ℕ} {x : Ends} {r : Rule} (l : Left side F xs p m n x r) where
+    -- One child further on, which has state q.
+    pub left-more : {q s k j : ℕ} (t : Next F q s j (l .rest)) → k ≡ length (t .child .after) → (y z : Ends) → y ≡ beside side x (K xs q)
+        → z ≡ beside side y (alone (end side (t .child .after))) → Left side F xs s k j z r
+    left-more {q} {s} {k} t long y z ey ez =
         let child = t .child in
-        let made : y ≡ withChild side x (K xs (child .state)) (child .after) =
-        e ∙ ap (λ k. withChild side x (K xs k) w) (t .state) ∙ ap (withChild side x (K xs (child .state))) ew in
+        let after = alone (end side (child .after)) in
+        let made : z ≡ beside side (beside side x (K xs (child .state))) after =
+        ez ∙ ap (λ w. beside side w after) (ey ∙ ap (λ i. beside side x (K xs i)) (t .state)) in
         record {
           word = child .after;
+          long = long;
           rest = t .rest;
           ahead = t .ahead;
           gathers =
-              ap (λ z. beside side z (along side (K xs) (t .rest))) made ∙ sym (gather side (K xs) x child (t .rest))
+              ap (λ w. beside side w (along side (K xs) (t .rest))) made ∙ sym (gather side (K xs) x child (t .rest))
               ∙ ap (λ cs. beside side x (along side (K xs) cs)) (sym (t .first)) ∙ l .gathers;
         }
 
