@@ -13,7 +13,7 @@ use Rattle.ends.specs.Ends.{Ends, stuck, free}
 use Rattle.ends.specs.Companion.{freeRow}
 use Rattle.layout.specs.Leaves.{RowAt}
 use Rattle.summary.specs.Codes.{K}
-use Rattle.sides.proofs.Walks.{Ahead, Next}
+use Rattle.layout.proofs.Ahead.{Ahead, Next}
 
 -- On the way through the children cs: the word at spot p has m letters, and the children that are left tell what all tell.
 pub record Rest (F xs : List ℕ) (p m n : ℕ) (cs : List Child) : Type 0 where

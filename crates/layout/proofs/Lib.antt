@@ -12,3 +12,4 @@ pub mod Ranges
 pub mod Spots
 pub mod Strides
 pub mod Listing
+pub mod Ahead

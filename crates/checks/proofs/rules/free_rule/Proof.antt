@@ -8,7 +8,7 @@ use Rattle.ends.specs.Ends.{stuck}
 use Rattle.layout.specs.Layout.{Opened}
 use Rattle.layout.specs.Leaves.{RowAt}
 use Rattle.summary.specs.Codes.{decode}
-use Rattle.sides.proofs.Walks.{ahead-begun, ahead-more, ahead-none}
+use Rattle.layout.proofs.Ahead.{ahead-begun, ahead-more, ahead-none}
 use Rattle.checks.proofs.Rows.{Rest, rest-begun, rest-more, rest-stuck, rest-done}
 use Rattle.checks.proofs.rules.free_rule.Statement.{statement}
 use Rattle.checks.proofs.rules.free_rule.Tie as tie

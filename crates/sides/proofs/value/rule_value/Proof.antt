@@ -8,7 +8,8 @@ use Rattle.layout.specs.Layout.{Opened}
 use Rattle.layout.specs.Leaves.{RowAt}
 use Rattle.summary.specs.Codes.{sideOf, decode}
 use Rattle.summary.proofs.Codes.{nothing-known}
-use Rattle.sides.proofs.Walks.{Left, ahead-begun, ahead-more, ahead-none, left-begun, left-more, left-done, left-none}
+use Rattle.layout.proofs.Ahead.{ahead-begun, ahead-more, ahead-none}
+use Rattle.sides.proofs.Walks.{Left, left-begun, left-more, left-done, left-none}
 use Rattle.sides.proofs.value.rule_value.Statement.{statement}
 use Rattle.sides.proofs.value.rule_value.Tie as tie
 
