@@ -1,12 +1,10 @@
 -- Finding a rule without letters for whose children something is kept: the children of a rule, and the rules of a state, one by one.
-use mathlib.Core.Path.{_≡_}
+use mathlib.Core.Path.{_≡_, subst}
 use mathlib.Core.List.{List, [], _∷_}
-use mathlib.Core.Logic.{_↔_}
 use Prim.Native.Nat.{ℕ, zero, suc, _+_, _≤_, _<_}
 use native.Mathlib.Decide.{ℕ-discrete}
 use native.Mathlib.Omega.{arith}
 use lib.ListN.{length, getD}
-use mathlib.Core.Path.{subst}
 use Rattle.machine.specs.Machine.{Child, Row, Table}
 use Rattle.machine.proofs.Find.{index-row}
 use Rattle.layout.specs.Leaves.{RowAt, RulesOf, stateNo}

@@ -1,5 +1,5 @@
 // Which states of an opened table have the empty word: those with a rule that writes no letter itself and whose children all have it.
-// Nothing is asked of the lent numbers: each contract speaks of every table that they mean.
+// Nothing is asked of the lent numbers but how many they are: each contract speaks of every table that they mean.
 ghost use mathlib.Core.Path.{_≡_};
 ghost use mathlib.Core.List.{List};
 ghost use Prim.Native.Nat.{ℕ, _<_};
@@ -7,28 +7,29 @@ ghost use lib.ListN.{length, getD};
 ghost use Rattle.words.specs.Told.{Told};
 ghost use Rattle.machine.specs.Machine.{Rule, Table};
 ghost use Rattle.text.specs.Limits.{statesMost};
-ghost use Rattle.layout.specs.Layout.{Opened};
+ghost use Rattle.layout.specs.Layout.{numbersSize, Opened};
 ghost use Rattle.layout.specs.Leaves.{Holds};
 ghost use Rattle.summary.specs.Codes.{K};
 ghost use Rattle.summary.specs.Grown.{Grown};
 ghost use Rattle.blank.specs.Blank.{Blanks, EmptyTold, AllBlank, BlankRule, BlankOf, Marks, Among, AllListed};
 use layout::byte;
 use layout::child_in;
-use layout::kept_of;
+use layout::kept_at;
 use layout::kids_in;
 use layout::letters_in;
-use layout::rules_of;
+use layout::rules_in;
 use layout::wide;
-use summary::kept;
 
 // Whether something is kept for each child of the rule that x tells.
 fn all_blank(x: u64, values: &[u16]) -> bool
+    requires { ⌜ length (now values) ≡ statesMost ⌝ }
     ensures { λ t. ⌜ ((i : ℕ) (r : Rule) → Holds x i r → Told (AllBlank (now (values .entry)) (r .rest)) t) ⌝ }
 {
     let kids = kids_in(x);
     let mut j: usize = 0;
     while j < kids {
-        if kept(values, child_in(x, j)) == 0 {
+        let q = child_in(x, j);
+        if values[q] == 0 {
             return false;
         }
         j += 1;
@@ -38,6 +39,7 @@ fn all_blank(x: u64, values: &[u16]) -> bool
 
 // Whether the rule that x tells writes no letter itself, and something is kept for each of its children.
 fn blank_rule(x: u64, values: &[u16]) -> bool
+    requires { ⌜ length (now values) ≡ statesMost ⌝ }
     ensures { λ t. ⌜ ((i : ℕ) (r : Rule) → Holds x i r → Told (BlankRule (now (values .entry)) r) t) ⌝ }
 {
     if 0 < letters_in(x) {
@@ -48,13 +50,14 @@ fn blank_rule(x: u64, values: &[u16]) -> bool
 
 // Whether state q has such a rule.
 fn has_blank(numbers: &[u64], q: usize, values: &[u16]) -> bool
+    requires { ⌜ (length (now numbers) ≡ numbersSize) × (length (now values) ≡ statesMost) ⌝ }
     ensures { λ t. ⌜ ((F : List ℕ) (M : Table) → Opened F (now (numbers .entry)) M → Told (BlankOf M (now (values .entry)) q) t) ⌝ }
 {
-    let rules = rules_of(numbers, q);
+    let rules = rules_in(numbers, q);
     let to = rules.to;
     let mut i = rules.from;
     while i < to {
-        if blank_rule(kept_of(numbers, i), values) {
+        if blank_rule(kept_at(numbers, i), values) {
             return true;
         }
         i += 1;
@@ -64,7 +67,7 @@ fn has_blank(numbers: &[u64], q: usize, values: &[u16]) -> bool
 
 // Keeps 1024 for state q if nothing is kept for it yet and it has such a rule, and says how many states that makes: 1 or 0.
 fn blank_state(numbers: &[u64], q: usize, values: &mut [u16]) -> usize
-    requires { ⌜ length (now values) ≡ statesMost ⌝ }
+    requires { ⌜ (length (now numbers) ≡ numbersSize) × (length (now values) ≡ statesMost) ⌝ }
     ensures { λ k. ⌜ Grown (now (values .entry)) (now (values .exit)) k ⌝ }
     ensures { λ k. ⌜ Marks (now (numbers .entry)) (λ p. p ≡ q) (now (values .entry)) (now (values .exit)) k ⌝ }
 {
@@ -83,7 +86,7 @@ fn blank_state(numbers: &[u64], q: usize, values: &mut [u16]) -> usize
 
 // Does that for the first n states of the order, from the last state on, and says for how many 1024 is new.
 fn blank_states(numbers: &[u64], order: &[u8], n: usize, values: &mut [u16]) -> usize
-    requires { ⌜ length (now values) ≡ statesMost ⌝ }
+    requires { ⌜ (length (now numbers) ≡ numbersSize) × (length (now values) ≡ statesMost) ⌝ }
     ensures { λ k. ⌜ Grown (now (values .entry)) (now (values .exit)) k ⌝ }
     ensures { λ k. ⌜ Marks (now (numbers .entry)) (Among (now (order .entry)) 0 n) (now (values .entry)) (now (values .exit)) k ⌝ }
 {
@@ -99,7 +102,7 @@ fn blank_states(numbers: &[u64], order: &[u8], n: usize, values: &mut [u16]) -> 
 
 // Finds the states that have the empty word, and keeps 1024 for each: rules without letters are tried, state by state, until none finds a state more.
 pub fn blanks(numbers: &[u64], order: &[u8], n: usize, values: &mut [u16])
-    requires { ⌜ (length (now values) ≡ statesMost) × ((q : ℕ) → getD (now values) q 0 ≡ 0) ⌝ }
+    requires { ⌜ (length (now numbers) ≡ numbersSize) × (length (now values) ≡ statesMost) × ((q : ℕ) → getD (now values) q 0 ≡ 0) ⌝ }
     ensures { λ _. ⌜ length (now (values .exit)) ≡ statesMost ⌝ }
     ensures { λ _. ⌜ ((F : List ℕ) (M : Table) → Opened F (now (numbers .entry)) M → Blanks M (now (values .exit))) ⌝ }
     ensures { λ _. ⌜ ((F : List ℕ) (M : Table) → Opened F (now (numbers .entry)) M

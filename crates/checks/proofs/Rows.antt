@@ -4,34 +4,36 @@ use mathlib.Core.Bool.{Bool, true, false, not, _&&_}
 use mathlib.Core.List.{List, [], _∷_}
 use mathlib.Core.Option.{Option}
 use Prim.Native.Nat.{ℕ, _<_}
-use lib.ListN.{length, getElem?}
+use native.Mathlib.Omega.{arith}
+use lib.ListN.{length, getD, getElem?}
 use Rattle.words.specs.Word.{Word}
 use Rattle.machine.specs.Machine.{Child, Row, Table}
 use Rattle.machine.proofs.Find.{index-row}
-use Rattle.ends.specs.Ends.{stuck, free}
+use Rattle.ends.specs.Ends.{Ends, stuck, free}
 use Rattle.ends.specs.Companion.{freeRow}
 use Rattle.layout.specs.Leaves.{RowAt}
 use Rattle.summary.specs.Codes.{K}
-use Rattle.sides.proofs.Walks.{Ahead, Next}
+use Rattle.layout.proofs.Ahead.{Ahead, Next}
 
--- On the way through the children cs: those that are left tell what all tell.
-pub record Rest (F xs : List ℕ) (p n : ℕ) (cs : List Child) : Type 0 where
+-- On the way through the children cs: the word at spot p has m letters, and the children that are left tell what all tell.
+pub record Rest (F xs : List ℕ) (p m n : ℕ) (cs : List Child) : Type 0 where
   pub word : Word
+  pub long : m ≡ length word
   pub rest : List Child
   pub ahead : Ahead F word p n rest
   pub same : free (K xs) rest ≡ free (K xs) cs
 
 module _ (xs : List ℕ) where
   -- All children are left.
-  pub rest-begun : {F : List ℕ} {u : Word} {p n : ℕ} {cs : List Child} → Ahead F u p n cs → Rest F xs p n cs
-  rest-begun {u = u} {cs = cs} a = record { word = u; rest = cs; ahead = a; same = refl }
+  pub rest-begun : {F : List ℕ} {u : Word} {p m n : ℕ} {cs : List Child} → Ahead F u p n cs → m ≡ length u → Rest F xs p m n cs
+  rest-begun {u = u} {cs = cs} a l = record { word = u; long = l; rest = cs; ahead = a; same = refl }
 
-  module _ {F : List ℕ} {p n : ℕ} {cs : List Child} (l : Rest F xs p n cs) where
+  module _ {F : List ℕ} {p m n : ℕ} {cs : List Child} (l : Rest F xs p m n cs) where
     -- No child is left.
     pub rest-done : l .rest ≡ [] → true ≡ free (K xs) cs
     rest-done e = sym (ap (free (K xs)) e) ∙ l .same
 
-    module _ {q s m : ℕ} (t : Next F q s m (l .rest)) (b : Bool) (test : b ≡ stuck (K xs q) (t .child .after)) where
+    module _ {q s j : ℕ} (t : Next F q s j (l .rest)) (b : Bool) (test : b ≡ stuck (K xs q) (t .child .after)) where
       -- The next child's test, and then the others.
       rest-next : not b && free (K xs) (t .rest) ≡ free (K xs) cs
       rest-next =
@@ -39,13 +41,24 @@ module _ (xs : List ℕ) where
           ∙ sym (ap (free (K xs)) (t .first)) ∙ l .same
 
       -- A child behind which no word can be pushed is passed over.
-      pub rest-more : b ≡ false → Rest F xs s m cs
-      rest-more e =
-          record { word = t .child .after; rest = t .rest; ahead = t .ahead; same = sym (ap (λ x. not x && free (K xs) (t .rest)) e) ∙ rest-next }
+      pub rest-more : {k : ℕ} → k ≡ length (t .child .after) → b ≡ false → Rest F xs s k j cs
+      rest-more long e =
+          let same = sym (ap (λ x. not x && free (K xs) (t .rest)) e) ∙ rest-next in
+          record { word = t .child .after; long = long; rest = t .rest; ahead = t .ahead; same = same }
 
       -- A child behind which a word can be pushed.
       pub rest-stuck : b ≡ true → false ≡ free (K xs) cs
       rest-stuck e = sym (ap (λ x. not x && free (K xs) (t .rest)) e) ∙ rest-next
+
+-- The word at a spot, by its letter: whether it can be pushed.
+pub stuck-none : (x : Ends) (u : Word) (n : ℕ) → n ≡ length u → n ≡ 0 → false ≡ stuck x u
+stuck-none x [] n e z = refl
+stuck-none x (a ∷ u) n e z = absurd (omega arith)
+
+pub stuck-first : (x : Ends) (u : Word) (n a : ℕ) {b : Bool} → n ≡ length u → (n ≡ 0 → ⊥) → (0 < length u → a ≡ getD u 0 0)
+    → ((w : Word) → b ≡ stuck x (a ∷ w)) → b ≡ stuck x u
+stuck-first x [] n a e ne read test = absurd (ne e)
+stuck-first x (c ∷ u) n a e ne read test = test u ∙ ap (λ d. stuck x (d ∷ u)) (read (omega arith))
 
 -- The test of the rules by their numbers.
 abbrev pub freeAt : Table → List ℕ → ℕ → Bool

@@ -1,7 +1,7 @@
 -- The checks by their numbers: what the tests on marks and summaries tell, and the search for the least place.
-use mathlib.Core.Path.{_≡_, sym, ap, _∙_}
+use mathlib.Core.Path.{_≡_, refl, sym, ap, _∙_}
 use mathlib.Core.Bool.{Bool, true, false, not}
-use mathlib.Core.List.{List}
+use mathlib.Core.List.{List, [], _∷_}
 use mathlib.Core.Option.{Option, none, some}
 use Prim.Native.Nat.{ℕ, suc, _+_, _-_, _≤_, _<_}
 use native.Mathlib.Decide.{ℕ-discrete, decLt}
@@ -100,11 +100,17 @@ module _ (test : ℕ → Bool) (n : ℕ) where
       none-left = omega arith
 
 -- ---- the initial rule
--- Its test, by what is read: its last word w, its state q, and what is kept for that.
-pub start-test : (M : Table) (xs : List ℕ) {w : Word} {q x : ℕ} {b : Bool} → w ≡ M .after → q ≡ M .start → x ≡ getD xs q 0 → b ≡ stuck (decode x) w
-    → stuck (K xs (M .start)) (M .after) ≡ b
-start-test M xs {w} {q} {x} ew eq ex eb =
-    ap (λ n. stuck (K xs n) (M .after)) (sym eq) ∙ ap (λ n. stuck (decode n) (M .after)) (sym ex) ∙ ap (stuck (decode x)) (sym ew) ∙ sym eb
+-- Its last word is empty.
+pub start-empty : (M : Table) (xs : List ℕ) (w : Word) → length w ≡ 0 → w ≡ M .after → stuck (K xs (M .start)) (M .after) ≡ false
+start-empty M xs [] z e = ap (stuck (K xs (M .start))) (sym e)
+start-empty M xs (a ∷ w) z e = absurd (omega arith)
+
+-- Its test, by what is read: its last word w, which is not empty, its state q, and what is kept for that.
+pub start-test : (M : Table) (xs : List ℕ) (w : Word) (q x : ℕ) {b : Bool} → (length w ≡ 0 → ⊥) → w ≡ M .after → q ≡ M .start → x ≡ getD xs q 0
+    → ((v : Word) → b ≡ stuck (decode x) (getD w 0 0 ∷ v)) → stuck (K xs (M .start)) (M .after) ≡ b
+start-test M xs [] q x ne ew eq ex eb = absurd (ne refl)
+start-test M xs (a ∷ w) q x ne ew eq ex eb =
+    ap (λ n. stuck (K xs n) (M .after)) (sym eq) ∙ ap (λ n. stuck (decode n) (M .after)) (sym ex) ∙ ap (stuck (decode x)) (sym ew) ∙ sym (eb w)
 
 -- The initial rule is found, if its last word can be pushed.
 pub start-found : (b : Bool) → b ≡ true → some 0 ≡ least (λ p. not b) 1 0

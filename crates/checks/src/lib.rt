@@ -1,11 +1,12 @@
 // The checks 13 to 18 by their numbers, on the states that are reached and the summaries at both sides: the least place that does not pass.
 ghost use mathlib.Core.Path.{_≡_};
 ghost use mathlib.Core.Bool.{not};
-ghost use Prim.Native.Nat.{ℕ, _<_};
+ghost use Prim.Native.Nat.{_<_};
+ghost use lib.ListN.{length};
 ghost use Rattle.machine.specs.Machine.{Table};
 ghost use Rattle.ends.specs.Ends.{stuck};
 ghost use Rattle.ends.specs.Companion.{least};
-ghost use Rattle.layout.specs.Layout.{Opened};
+ghost use Rattle.layout.specs.Layout.{numbersSize, Opened};
 ghost use Rattle.summary.specs.Codes.{K};
 ghost use Rattle.checks.specs.Checks.{placeOf, passesAt, leastAt};
 use crate::rules::least_rule;
@@ -14,7 +15,7 @@ use layout::start;
 use layout::states;
 use layout::word_after;
 use summary::kept;
-use summary::stuck_word;
+use summary::stuck_by;
 
 mod rules;
 
@@ -58,7 +59,12 @@ fn start_fault(frames: &[u8], numbers: &[u64], left: &[u16]) -> Fault
     ensures { λ r. ⌜ ((M : Table) → Opened (now (frames .entry)) (now (numbers .entry)) M
         → placeOf r ≡ least (λ p. not (stuck (K (now (left .entry)) (M .start)) (M .after))) 1 0) ⌝ }
 {
-    if stuck_word(word_after(frames, numbers), kept(left, start(numbers))) {
+    let word = word_after(frames, numbers);
+    if word.len() == 0 {
+        return Fault::Nowhere;
+    }
+    let q = start(numbers);
+    if stuck_by(word[0], kept(left, q)) {
         return Fault::At(0);
     }
     Fault::Nowhere
@@ -73,6 +79,7 @@ pub fn place_of_fault(
     left: &[u16],
     right: &[u16],
 ) -> Fault
+    requires { ⌜ length (now numbers) ≡ numbersSize ⌝ }
     ensures { λ r. ⌜ ((M : Table) → Opened (now (frames .entry)) (now (numbers .entry)) M
         → placeOf r ≡ leastAt number M (now (marks .entry)) (now (left .entry)) (now (right .entry))) ⌝ }
 {

@@ -9,44 +9,50 @@ ghost use Rattle.machine.specs.Machine.{Child, Row, Table};
 ghost use Rattle.text.specs.Limits.{rowsMost};
 ghost use Rattle.ends.specs.Ends.{stuck, free};
 ghost use Rattle.ends.specs.Companion.{least, freeRow};
-ghost use Rattle.layout.specs.Layout.{Opened};
+ghost use Rattle.layout.specs.Layout.{numbersSize, Opened};
 ghost use Rattle.layout.specs.Leaves.{RowAt, Spot};
 ghost use Rattle.summary.specs.Codes.{decode, K, Firm};
 ghost use Rattle.checks.specs.Checks.{placeOf};
 use crate::Fault;
-use layout::kept_of;
-use layout::kids_in;
-use layout::next_spot;
+use layout::laid_at;
+use layout::letter_at;
+use layout::letters_at;
 use layout::rules;
-use layout::spot_of;
-use layout::state_behind;
-use layout::word_at;
+use layout::spot_past;
+use layout::state_past;
 use summary::kept;
 use summary::narrow;
-use summary::stuck_word;
+use summary::stuck_by;
 
-// Whether the word at a spot can be pushed to the left of a state with this summary. Mostly the summary alone says no, so the word is read last.
-fn stuck_at(frames: &[u8], p: usize, x: u16) -> bool
-    ensures { λ t. ⌜ ((u : Word) (cs : List Child) → Spot (now (frames .entry)) u cs p → t ≡ stuck (decode x) u) ⌝ }
+// Whether the word at a spot, which has n letters, can be pushed to the left of a state with this summary.
+// Mostly the summary alone says no, so the word is read last.
+fn stuck_at(frames: &[u8], p: usize, n: usize, x: u16) -> bool
+    ensures { λ t. ⌜ ((u : Word) (cs : List Child) → Spot (now (frames .entry)) u cs p → n ≡ length u → t ≡ stuck (decode x) u) ⌝ }
 {
     if !narrow(x) {
         return false;
     }
-    stuck_word(word_at(frames, p), x)
+    if n == 0 {
+        return false;
+    }
+    stuck_by(letter_at(frames, p, 0), x)
 }
 
 // Whether no word of rule number i can be pushed to the left of the state before it.
 fn free_rule(frames: &[u8], numbers: &[u64], i: usize, left: &[u16]) -> bool
-    requires { ⌜ i < rowsMost ⌝ }
+    requires { ⌜ (length (now numbers) ≡ numbersSize) × (i < rowsMost) ⌝ }
     ensures { λ t. ⌜ ((M : Table) (row : Row) → Opened (now (frames .entry)) (now (numbers .entry)) M → RowAt M i row
         → t ≡ free (K (now (left .entry))) (row .rule .rest)) ⌝ }
 {
-    let mut kids = kids_in(kept_of(numbers, i));
-    let mut p = spot_of(numbers, i);
+    let rule = laid_at(numbers, i);
+    let mut kids = rule.kids;
+    let mut p = rule.spot;
+    let mut n = letters_at(frames, p);
     while 0 < kids {
-        let q = state_behind(frames, p);
-        p = next_spot(frames, p);
-        if stuck_at(frames, p, kept(left, q)) {
+        let q = state_past(frames, p, n);
+        p = spot_past(p, n);
+        n = letters_at(frames, p);
+        if stuck_at(frames, p, n, kept(left, q)) {
             return false;
         }
         kids -= 1;
@@ -70,6 +76,7 @@ fn some_narrow(left: &[u16]) -> bool
 
 // The least rule with a word that can be pushed to the left of the state before it.
 pub fn least_rule(frames: &[u8], numbers: &[u64], left: &[u16]) -> Fault
+    requires { ⌜ length (now numbers) ≡ numbersSize ⌝ }
     ensures { λ r. ⌜ ((M : Table) → Opened (now (frames .entry)) (now (numbers .entry)) M
         → placeOf r ≡ least (λ i. freeRow (K (now (left .entry))) (getElem? (M .rows) i)) (length (M .rows)) 0) ⌝ }
 {

@@ -13,3 +13,6 @@ pub mod Spots
 pub mod Whole
 pub mod Children
 pub mod Putting
+pub mod Strides
+pub mod Listing
+pub mod Ahead

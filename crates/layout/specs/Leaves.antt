@@ -16,6 +16,7 @@ use Rattle.layout.specs.declared.Head.{Head}
 use Rattle.layout.specs.declared.Place.{Place}
 use Rattle.layout.specs.declared.Lookup.{Lookup}
 use Rattle.layout.specs.declared.Lookup.the-variants.{Found, Missing}
+use Rattle.layout.specs.declared.whole.Laid.{Laid}
 use Rattle.layout.specs.declared.RuleOf.{RuleOf}
 use Rattle.layout.specs.declared.RuleOf.the-variants as ruled
 
@@ -130,3 +131,8 @@ pub record Put (F : List ℕ) (p at : ℕ) (R R′ : List ℕ) (r : ℕ) : Type 
   pub long : length R′ ≡ length R
   pub written : (u : Word) (cs : List Child) → length F ≡ framesSize → Spot F u cs p → at + length u ≤ length R
       → (r ≡ at + length u) × (take r R′ ≡ take at R ++ u)
+
+-- Where a rule's first word stands in the bytes F, and how many children the rule has.
+pub record LaidOut (F : List ℕ) (r : Rule) (l : Laid) : Type 0 where
+  pub spot : Spot F (r .first) (r .rest) (l .spot)
+  pub kids : l .kids ≡ length (r .rest)

@@ -39,6 +39,14 @@ pub use spot::state_behind;
 pub use spot::word_at;
 pub use texts::lines_length;
 pub use texts::rule_text;
+pub use stride::letter_at;
+pub use stride::letters_at;
+pub use stride::spot_past;
+pub use stride::state_past;
+pub use whole::Laid;
+pub use whole::kept_at;
+pub use whole::laid_at;
+pub use whole::rules_in;
 
 mod copy;
 mod counts;
@@ -48,6 +56,8 @@ mod kids;
 mod rule;
 mod spot;
 mod texts;
+mod stride;
+mod whole;
 
 // How many bytes and how many numbers a caller lends for an opened table. The bytes behind the
 // longest table's frames let a word be copied in pieces of 32.

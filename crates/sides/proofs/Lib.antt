@@ -1,5 +1,5 @@
 -- The laws of the ends of each state's words:
---   Walks      ahead-.., left-..: from child to child, and a rule's summary gathered on the way
+--   Walks      left-..: a rule's summary gathered from child to child
 --   Steps      visit-..: what one rule adds
 --   Sated      several-rests: states with several letters are finished. visit-told: a rule leaves the empty words told
 --   Rounds     tried-.., numbers-.., states-..: rules in turn

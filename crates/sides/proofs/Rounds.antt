@@ -2,7 +2,7 @@
 use mathlib.Core.Path.{_≡_, sym, ap, _∙_, subst}
 use mathlib.Core.List.{List}
 use mathlib.Core.Logic.{_⊎_, inl, inr, ⊎-elim}
-use mathlib.Core.Option.{some, Option·some-injective}
+use mathlib.Core.Option.{Option·some-injective}
 use Prim.Native.Nat.{ℕ, _+_, _-_, _%_, _≤_, _<_}
 use native.Mathlib.Decide.{ℕ-discrete}
 use native.Mathlib.Omega.{arith}
@@ -17,7 +17,7 @@ use Rattle.layout.specs.Leaves.{RowAt, RulesOf}
 use Rattle.summary.specs.Codes.{K, summaries}
 use Rattle.summary.specs.Grown.{Grown}
 use Rattle.summary.proofs.Codes.{letters-several}
-use Rattle.blank.specs.Blank.{EmptyTold, Among}
+use Rattle.blank.specs.Blank.{EmptyTold}
 use Rattle.sides.specs.Steps.{Tried, Numbers, OneState, States}
 use Rattle.sides.proofs.Sated.{several-rests, visit-told}
 
@@ -83,6 +83,10 @@ module _ {M : Table} {side : Side} where
     -- All rules of the state are tried.
     pub numbers-all : {xs ys : List ℕ} {k : ℕ} (i : ℕ) → i ≤ from → Tried M side (Numbers i to) xs ys k → Tried M side (OneState q) xs ys k
     numbers-all i l t = tried-as t (λ j row there a. let w = rules .exactly j row there .1 a in (omega (arith, w .0), w .1))
+
+  -- No rule is one of a state that the table cannot have.
+  pub state-none : (xs : List ℕ) (q : ℕ) → ((i : ℕ) (row : Row) → RowAt M i row → row .state < q) → Tried M side (OneState q) xs xs 0
+  state-none xs q h = record { keeps = λ W. W; tells = λ T. T; rests = λ R e i row there a. absurd (omega (arith, h i row there, a)) }
 
   -- A state that has several letters now: all its rules are tried.
   pub several-tried : {tried : ℕ → Row → Type 0} {xs ys : List ℕ} {k q : ℕ} → Rising (M .rows) → Tried M side tried xs ys k → 257 ≤ getD ys q 0 % 1024

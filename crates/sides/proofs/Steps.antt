@@ -1,9 +1,8 @@
 -- What one rule adds to the summaries.
 use mathlib.Core.Path.{_≡_, sym, ap, _∙_}
 use mathlib.Core.List.{List}
-use Prim.Native.Nat.{ℕ, _≤_}
-use lib.ListN.{length, getD, set, length-map}
-use lib.Seq.{set-out}
+use Prim.Native.Nat.{ℕ}
+use lib.ListN.{getD, set}
 use Rattle.machine.specs.Machine.{Row}
 use Rattle.ends.specs.Ends.{Side, join, value, at}
 use Rattle.ends.specs.Companion.{visit}
@@ -23,10 +22,6 @@ module _ (side : Side) (row : Row) (q : ℕ) (es : row .state ≡ q) (xs : List 
   -- A rule that adds nothing to its state's summary changes nothing.
   pub visit-none : join (K xs q) (value side (K xs) (row .rule)) ≡ K xs q → summaries xs ≡ visit side row (summaries xs)
   visit-none e = sym (visit-joins ∙ set-same xs q _ e)
-
-  -- A rule of a state that has no place changes nothing.
-  pub visit-out : length xs ≤ q → summaries xs ≡ visit side row (summaries xs)
-  visit-out h = sym (visit-joins ∙ set-out (summaries xs) q _ (rw (length-map xs decode) h))
 
   module _ (v n : ℕ) (ev : decode v ≡ value side (K xs) (row .rule)) (en : decode n ≡ join (K xs q) (decode v)) where
     -- A rule whose summary is joined in leaves what is there, if that is what comes out.

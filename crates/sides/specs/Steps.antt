@@ -2,19 +2,14 @@
 use mathlib.Core.Path.{_≡_}
 use mathlib.Core.List.{List}
 use Prim.Native.Nat.{ℕ, _≤_, _<_}
-use Rattle.words.specs.Word.{Word}
 use Rattle.machine.specs.Machine.{Row, Table}
-use Rattle.ends.specs.Ends.{Side, end, Ends, alone, beside, at}
+use Rattle.ends.specs.Ends.{Side, Ends, at}
 use Rattle.ends.specs.Meaning.{Witnessed, Covering}
 use Rattle.ends.specs.Companion.{visit}
 use Rattle.layout.specs.Layout.{Opened}
 use Rattle.layout.specs.Leaves.{RowAt}
 use Rattle.summary.specs.Codes.{K, summaries}
 use Rattle.blank.specs.Blank.{EmptyTold, Among, AllListed}
-
--- The summary x of a rule's beginning, with a child of summary y and the word w behind it.
-abbrev pub withChild : Side → Ends → Ends → Word → Ends
-withChild side x y w = beside side (beside side x y) (alone (end side w))
 
 -- What the summaries claim is witnessed, and they tell of every empty word.
 abbrev pub Ready : Table → Side → (ℕ → Ends) → Type 0

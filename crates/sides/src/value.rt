@@ -1,51 +1,77 @@
 // The summary of a rule's words, where the states have summaries.
 ghost use mathlib.Core.Path.{_≡_};
+ghost use mathlib.Core.List.{List};
 ghost use Prim.Native.Nat.{_<_};
-ghost use Rattle.machine.specs.Machine.{Row, Table};
-ghost use Rattle.text.specs.Limits.{rowsMost};
-ghost use Rattle.ends.specs.Ends.{value};
-ghost use Rattle.layout.specs.Layout.{Opened};
-ghost use Rattle.layout.specs.Leaves.{RowAt};
+ghost use lib.ListN.{length};
+ghost use Rattle.words.specs.Word.{Word};
+ghost use Rattle.machine.specs.Machine.{Child, Row, Table};
+ghost use Rattle.text.specs.Limits.{statesMost, rowsMost};
+ghost use Rattle.ends.specs.Ends.{end, alone, beside, value};
+ghost use Rattle.layout.specs.Layout.{numbersSize, Opened};
+ghost use Rattle.layout.specs.Leaves.{RowAt, Spot};
 ghost use Rattle.summary.specs.Codes.{sideOf, decode, K};
-ghost use Rattle.sides.specs.Steps.{withChild};
-use layout::kept_of;
-use layout::kids_in;
-use layout::next_spot;
-use layout::spot_of;
-use layout::state_behind;
-use layout::word_at;
-use summary::alone_of;
-use summary::kept;
-use summary::letter_of;
+use layout::laid_at;
+use layout::letter_at;
+use layout::letters_at;
+use layout::spot_past;
+use layout::state_past;
+use summary::lettered;
 use summary::next_to;
 
-// The summary x of a rule's beginning, with a child in state q and the word behind it. An empty word changes nothing.
-fn with_child(x: u16, q: usize, word: &[u8], side: u8, values: &[u16]) -> u16
-    ensures { λ r. ⌜ decode r ≡ withChild (sideOf side) (decode x) (K (now (values .entry)) q) (now (word .entry)) ⌝ }
+// The summary of the word at a spot, which has n letters and at least one, seen from a side: its first or its last letter.
+fn end_at(frames: &[u8], p: usize, n: usize, side: u8) -> u16
+    requires { ⌜ (0 < n) × (n < 256) ⌝ }
+    ensures { λ r. ⌜ ((u : Word) (cs : List Child) → Spot (now (frames .entry)) u cs p → n ≡ length u → decode r ≡ alone (end (sideOf side) u)) ⌝ }
 {
-    let y = next_to(side, x, kept(values, q));
-    if word.len() == 0 {
-        return y;
+    if side == 0 {
+        return lettered(letter_at(frames, p, 0));
     }
-    next_to(side, y, letter_of(word, side))
+    lettered(letter_at(frames, p, n - 1))
+}
+
+// The summary of that word, which may be empty.
+fn alone_at(frames: &[u8], p: usize, n: usize, side: u8) -> u16
+    requires { ⌜ n < 256 ⌝ }
+    ensures { λ r. ⌜ ((u : Word) (cs : List Child) → Spot (now (frames .entry)) u cs p → n ≡ length u → decode r ≡ alone (end (sideOf side) u)) ⌝ }
+{
+    if n == 0 {
+        return 1024;
+    }
+    end_at(frames, p, n, side)
+}
+
+// The summary x of a rule's beginning, with that word behind it. An empty word changes nothing.
+fn with_word(x: u16, frames: &[u8], p: usize, n: usize, side: u8) -> u16
+    requires { ⌜ n < 256 ⌝ }
+    ensures { λ r. ⌜ ((u : Word) (cs : List Child) → Spot (now (frames .entry)) u cs p → n ≡ length u
+        → decode r ≡ beside (sideOf side) (decode x) (alone (end (sideOf side) u))) ⌝ }
+{
+    if n == 0 {
+        return x;
+    }
+    next_to(side, x, end_at(frames, p, n, side))
 }
 
 // The summary of the words of rule number i. Once no word is known, none will be.
 pub fn rule_value(frames: &[u8], numbers: &[u64], i: usize, side: u8, values: &[u16]) -> u16
-    requires { ⌜ i < rowsMost ⌝ }
+    requires { ⌜ (length (now numbers) ≡ numbersSize) × (i < rowsMost) × (length (now values) ≡ statesMost) ⌝ }
     ensures { λ x. ⌜ ((M : Table) (row : Row) → Opened (now (frames .entry)) (now (numbers .entry)) M → RowAt M i row
         → decode x ≡ value (sideOf side) (K (now (values .entry))) (row .rule)) ⌝ }
 {
-    let mut left = kids_in(kept_of(numbers, i));
-    let mut p = spot_of(numbers, i);
-    let mut x = alone_of(word_at(frames, p), side);
+    let rule = laid_at(numbers, i);
+    let mut left = rule.kids;
+    let mut p = rule.spot;
+    let mut n = letters_at(frames, p);
+    let mut x = alone_at(frames, p, n, side);
     while 0 < left {
         if x == 0 {
             return 0;
         }
-        let q = state_behind(frames, p);
-        p = next_spot(frames, p);
-        x = with_child(x, q, word_at(frames, p), side, values);
+        let q = state_past(frames, p, n);
+        let y = next_to(side, x, values[q]);
+        p = spot_past(p, n);
+        n = letters_at(frames, p);
+        x = with_word(y, frames, p, n, side);
         left -= 1;
     }
     x

@@ -2,6 +2,7 @@
 use mathlib.Core.Path.{_≡_, refl, sym, ap, _∙_, subst}
 use mathlib.Core.Bool.{Bool, true, false, _&&_, _||_}
 use mathlib.Core.List.{[], _∷_}
+use mathlib.Core.Option.{some}
 use Prim.Native.Nat.{ℕ, zero, suc, _+_, _-_, _%_, _≤_, _<_}
 use native.Mathlib.Decide.{ℕ-discrete, decLt}
 use native.Mathlib.Omega.{arith}
@@ -76,51 +77,43 @@ unclean-below n h = ap clean (without-empty n (omega arith)) ∙ go (kind n)
     go (more-of k i) = absurd (omega arith)
 
 -- ---- words that can be pushed
--- The empty word cannot be pushed.
-pub stuck-empty : (x : Ends) (w : Word) → length w ≡ 0 → false ≡ stuck x w
-stuck-empty x [] e = refl
-stuck-empty x (a ∷ w) e = absurd (omega arith)
-
 -- No word can be pushed through a state without the empty word.
 pub stuck-without : (x : ℕ) (w : Word) → x < 1024 → false ≡ stuck (decode x) w
 stuck-without x [] h = refl
 stuck-without x (a ∷ w) h = sym (ap (λ t. t && only (decode x .letters) a) (lacks-empty x h))
 
--- The test of a word that is not empty behind a state with the empty word.
-stuck-by : (x : ℕ) (w : Word) → (length w ≡ 0 → ⊥) → 1024 ≤ x → stuck (decode x) w ≡ only (lettersOf (x % 1024)) (getD w 0 0)
-stuck-by x [] n h = absurd (n refl)
-stuck-by x (a ∷ w) n h = ap (λ t. t && only (decode x .letters) a) (has-empty x h)
+module _ (x : ℕ) (h : 1024 ≤ x) (a : ℕ) (w : Word) where
+  -- The test of a word behind a state with the empty word.
+  stuck-by : stuck (decode x) (a ∷ w) ≡ only (lettersOf (x % 1024)) a
+  stuck-by = ap (λ t. t && only (decode x .letters) a) (has-empty x h)
 
--- A word can be pushed through a state with the empty word alone.
-pub stuck-blank : (x : ℕ) (w : Word) → (length w ≡ 0 → ⊥) → 1024 ≤ x → x % 1024 ≡ 0 → true ≡ stuck (decode x) w
-unfolding lettersOf
-stuck-blank x w n h e = sym (stuck-by x w n h ∙ ap (λ k. only (lettersOf k) (getD w 0 0)) e)
+  -- A word can be pushed through a state with the empty word alone.
+  pub stuck-blank : x % 1024 ≡ 0 → true ≡ stuck (decode x) (a ∷ w)
+  unfolding lettersOf
+  stuck-blank e = sym (stuck-by ∙ ap (λ k. only (lettersOf k) a) e)
 
--- A word can be pushed through a state with its own first letter.
-stuck-same : (x : ℕ) (w : Word) → (length w ≡ 0 → ⊥) → 1024 ≤ x → getD w 0 0 < 256 → x % 1024 ≡ getD w 0 0 + 1 → true ≡ stuck (decode x) w
-stuck-same x w n h l e =
-    sym (stuck-by x w n h ∙ ap (λ k. only (lettersOf k) (getD w 0 0)) suc-of ∙ ap (λ m. only m (getD w 0 0)) (letter-one (getD w 0 0) l) ∙ eq-eqb
-    (getD w 0 0) (getD w 0 0) refl)
-  where
-    suc-of : x % 1024 ≡ suc (getD w 0 0)
-    suc-of = omega arith
+  -- A word can be pushed through a state with its own first letter.
+  stuck-same : a < 256 → x % 1024 ≡ a + 1 → true ≡ stuck (decode x) (a ∷ w)
+  stuck-same l e = sym (stuck-by ∙ ap (λ k. only (lettersOf k) a) suc-of ∙ ap (λ m. only m a) (letter-one a l) ∙ eq-eqb a a refl)
+    where
+      suc-of : x % 1024 ≡ suc a
+      suc-of = omega arith
 
--- A word cannot be pushed through a state with another first letter.
-stuck-other : (x : ℕ) (w : Word) → (length w ≡ 0 → ⊥) → 1024 ≤ x → (x % 1024 ≡ 0 → ⊥) → (x % 1024 ≡ getD w 0 0 + 1 → ⊥) → false ≡ stuck (decode x) w
-stuck-other x w n h z d = sym (stuck-by x w n h ∙ go (kind (x % 1024)))
-  where
-    go : Kind (x % 1024) → only (lettersOf (x % 1024)) (getD w 0 0) ≡ false
-    go (none-of e i) = absurd (z e)
-    go (one-of a e k i) = ap (λ m. only m (getD w 0 0)) i ∙ ne-eqb a (getD w 0 0) (λ j. d (omega arith))
-    go (more-of k i) = ap (λ m. only m (getD w 0 0)) i
+  -- A word cannot be pushed through a state with another first letter.
+  stuck-other : (x % 1024 ≡ 0 → ⊥) → (x % 1024 ≡ a + 1 → ⊥) → false ≡ stuck (decode x) (a ∷ w)
+  stuck-other z d = sym (stuck-by ∙ go (kind (x % 1024)))
+    where
+      go : Kind (x % 1024) → only (lettersOf (x % 1024)) a ≡ false
+      go (none-of e i) = absurd (z e)
+      go (one-of b e k i) = ap (λ m. only m a) i ∙ ne-eqb b a (λ j. d (omega arith))
+      go (more-of k i) = ap (λ m. only m a) i
 
--- Behind a state with the empty word and some letter, a word can be pushed if that letter is the word's own.
-pub stuck-letter : (x n : ℕ) (w : Word) → (length w ≡ 0 → ⊥) → 1024 ≤ x → (x % 1024 ≡ 0 → ⊥) → getD w 0 0 < 256 → n ≡ getD w 0 0 + 1 → eqb
-    (x % 1024) n ≡ stuck (decode x) w
-stuck-letter x n w some h z l e = elim (ℕ-discrete (x % 1024) n) [
-  | yes d ↦ eq-eqb (x % 1024) n d ∙ stuck-same x w some h l (d ∙ e)
-  | no d ↦ ne-eqb (x % 1024) n d ∙ stuck-other x w some h z (λ j. d (j ∙ sym e))
-]
+  -- Behind a state with the empty word and some letter, a word can be pushed if that letter is the word's own.
+  pub stuck-letter : (x % 1024 ≡ 0 → ⊥) → a < 256 → (n : ℕ) → n ≡ a + 1 → eqb (x % 1024) n ≡ stuck (decode x) (a ∷ w)
+  stuck-letter z l n e = elim (ℕ-discrete (x % 1024) n) [
+    | yes d ↦ eq-eqb (x % 1024) n d ∙ stuck-same l (d ∙ e)
+    | no d ↦ ne-eqb (x % 1024) n d ∙ stuck-other z (λ j. d (j ∙ sym e))
+  ]
 
 -- ---- states through which no word can be pushed
 -- Those without the empty word.
@@ -136,20 +129,6 @@ firm-several x h (a ∷ w) = ap (λ l. decode x .empty && only l a) (letters-sev
     off true = refl
     off false = refl
 
--- ---- one word, by its end
-module _ (w : Word) where
-  -- The empty word.
-  pub read-empty : (side : Side) → length w ≡ 0 → decode 1024 ≡ alone (end side w)
-  read-empty side e = blank-alone ∙ sym (ap alone (end-none side w e))
-
-  -- A word seen from the left.
-  pub read-left : (r : ℕ) → 0 < length w → getD w 0 0 < 256 → r ≡ getD w 0 0 + 1 → decode r ≡ alone (end left w)
-  read-left r n l e = ap decode e ∙ letter-alone (getD w 0 0) l ∙ ap alone (sym (end-left w n))
-
-  -- A word seen from the right.
-  pub read-right : (r : ℕ) → 0 < length w → getD w (length w - 1) 0 < 256 → r ≡ getD w (length w - 1) 0 + 1 → decode r ≡ alone (end right w)
-  read-right r n l e = ap decode e ∙ letter-alone (getD w (length w - 1) 0) l ∙ ap alone (sym (end-right w n))
-
 -- The number 0 names the left.
 pub side-left : (side : ℕ) → side ≡ 0 → sideOf side ≡ left
 side-left side e = ap sideOf e
@@ -158,3 +137,18 @@ side-left side e = ap sideOf e
 pub side-right : (side : ℕ) → (side ≡ 0 → ⊥) → sideOf side ≡ right
 side-right zero h = absurd (h refl)
 side-right (suc n) h = refl
+
+-- ---- one word, by its end
+-- The empty word.
+pub end-empty : (side : Side) (w : Word) → length w ≡ 0 → decode 1024 ≡ alone (end side w)
+end-empty side w e = blank-alone ∙ sym (ap alone (end-none side w e))
+
+module _ (side : ℕ) (w : Word) (some-letter : 0 < length w) (x : Ends) (a : ℕ) (e : x ≡ alone (some a)) where
+  -- A word seen from the left, by its first letter.
+  pub end-first : side ≡ 0 → a ≡ getD w 0 0 → x ≡ alone (end (sideOf side) w)
+  end-first z d = e ∙ ap (λ b. alone (some b)) d ∙ ap alone (sym (end-left w some-letter)) ∙ sym (ap (λ s. alone (end (sideOf s) w)) z)
+
+  -- A word seen from the right, by its last letter.
+  pub end-last : (side ≡ 0 → ⊥) → a ≡ getD w (length w - 1) 0 → x ≡ alone (end (sideOf side) w)
+  end-last z d =
+      e ∙ ap (λ b. alone (some b)) d ∙ ap alone (sym (end-right w some-letter)) ∙ sym (ap (λ s. alone (end s w)) (side-right side z))

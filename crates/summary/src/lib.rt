@@ -4,12 +4,11 @@ ghost use Prim.Native.Nat.{_<_};
 ghost use lib.ListN.{getD};
 ghost use Rattle.ends.specs.Ends.{both, join, before, beside, rankOf, rank};
 ghost use Rattle.summary.specs.Codes.{sideOf, lettersOf, decode};
-pub use word::alone_of;
-pub use word::letter_of;
-pub use word::narrow;
-pub use word::stuck_word;
+pub use letter::lettered;
+pub use letter::narrow;
+pub use letter::stuck_by;
 
-mod word;
+mod letter;
 
 // The letters of a union. A summary's letters are 0 for none, the letter and one more for one, from 257 on for several.
 fn letters_joined(a: u16, b: u16) -> u16

@@ -1,10 +1,10 @@
 -- The verdict of an opened table, from what the code has in the end.
 use mathlib.Core.Path.{_≡_, sym, subst}
 use mathlib.Core.List.{List}
-use Prim.Native.Nat.{ℕ, _≤_, _<_}
+use Prim.Native.Nat.{ℕ}
 use native.Mathlib.Decide.{decLt}
 use native.Mathlib.Omega.{arith}
-use lib.ListN.{length, getD, replicate, length-replicate, getD-replicate, List·getD-eq-default}
+use lib.ListN.{getD, replicate, length-replicate, getD-replicate, List·getD-eq-default}
 use Rattle.machine.specs.Machine.{Table}
 use Rattle.machine.specs.Verdict.{Verdict, Judged}
 use Rattle.text.specs.Limits.{statesMost}

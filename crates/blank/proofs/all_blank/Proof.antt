@@ -30,8 +30,11 @@ loop-holds c =
 child-in-requires : tie.Need-child-in-requires Inv-loop μ-loop
 child-in-requires c κs = search needs
 
-kept-requires : tie.Need-kept-requires Inv-loop μ-loop
-kept-requires c κs = search needs
+mul-if1 : tie.Need-mul-if1 Inv-loop μ-loop
+mul-if1 c = search needs
+
+shared-slice-read-if1 : tie.Need-shared-slice-read-if1 Inv-loop μ-loop
+shared-slice-read-if1 c = search needs
 
 returns : tie.Need-returns Inv-loop μ-loop
 returns c =
@@ -42,7 +45,7 @@ returns c =
     let v = c4 .loop .inv i r h in
     let less : c4 .loop .j < length (r .rest) = omega (arith, v .0, c .before .before .before .loop-test .taken) in
     let state = c .before .before .child-in .ensures .1 i r h less in
-    told-no (one-lacks xs (r .rest) (c4 .loop .j) less (ap (λ q. getD xs q 0) (sym state) ∙ sym (c .before .kept .ensures) ∙ c .if1 .taken))
+    told-no (one-lacks xs (r .rest) (c4 .loop .j) less (ap (λ q. getD xs q 0) (sym state) ∙ c .if1 .taken))
 
 add-j : tie.Need-add-j Inv-loop μ-loop
 add-j c = search needs
@@ -57,11 +60,9 @@ loop-again c =
     let xs = c7 .args .values .now in
     λ i r h.
     let v = c4 .loop .inv i r h in
-    let state = c .before .before .child-in .ensures .1 i r h (omega (arith, v .0, c .before .before .before .loop-test .taken)) in (
-      v .0,
-      below-more (λ (j : ℕ). getD xs (stateNo (r .rest) j) 0 ≡ 0 → ⊥) (c4 .loop .j) (v .1)
-          (λ z. c .if1 .left (c .before .kept .ensures ∙ ap (λ q. getD xs q 0) state ∙ z)),
-    )
+    let state = c .before .before .child-in .ensures .1 i r h (omega (arith, v .0, c .before .before .before .loop-test .taken)) in
+    let kept : getD xs (stateNo (r .rest) (c4 .loop .j)) 0 ≡ 0 → ⊥ = λ z. c .if1 .left (ap (λ q. getD xs q 0) state ∙ z) in
+    (v .0, below-more (λ (j : ℕ). getD xs (stateNo (r .rest) j) 0 ≡ 0 → ⊥) (c4 .loop .j) (v .1) kept)
 
 returns-2 : tie.Need-returns-2 Inv-loop μ-loop
 returns-2 c =
@@ -79,7 +80,8 @@ all-blank-spec =
     kids-in-requires
     loop-holds
     child-in-requires
-    kept-requires
+    mul-if1
+    shared-slice-read-if1
     returns
     add-j
     loop-less

@@ -11,8 +11,9 @@ returns c =
 
 returns-2 : tie.Need-returns-2
 returns-2 c =
-    λ i r h. told-map (λ a. record { letters = omega (arith, c .before .before .letters-in .ensures .1 i r h, c .before .if1 .left); kids = a })
-    (λ b. b .kids) (c .all-blank .ensures i r h)
+    λ i r h.
+    let letters = c .before .before .letters-in .ensures .1 i r h in
+    told-map (λ a. record { letters = omega (arith, letters, c .before .if1 .left); kids = a }) (λ b. b .kids) (c .all-blank .ensures i r h)
 
 pub blank-rule-spec : {M : Type 1} → statement M
 blank-rule-spec = tie.close (tie.spec (λ c κs. search needs) returns (λ c κs. search needs) returns-2)

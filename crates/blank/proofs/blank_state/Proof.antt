@@ -12,7 +12,7 @@ use Rattle.blank.proofs.blank_state.Tie as tie
 returns : tie.Need-returns
 returns c =
     let xs = c .before .before .before .args .values .now in
-    (grown-none xs, λ F M o. marked-none xs (λ p h e b z. omega (arith, c .if1 .taken, c .before .before .before .pre)))
+    (grown-none xs, λ F M o. marked-none xs (λ p h e b z. omega (arith, c .if1 .taken, c .before .before .before .pre .1)))
 
 returns-2 : tie.Need-returns-2
 returns-2 c =
@@ -31,10 +31,9 @@ returns-3 c =
 returns-4 : tie.Need-returns-4
 returns-4 c =
     let c8 = c .before .before .before .before .before .before .before .before in
-    let a = c8 .args in (
-      grown-none (a .values .now),
-      λ F M o. marked-none (a .values .now)
-          (λ p h e b z. c .before .has-blank .ensures F M o .if-false (c .if3 .left) (subst (λ i. BlankOf M (a .values .now) i) e b)),
+    let xs = c8 .args .values .now in (
+      grown-none xs,
+      λ F M o. marked-none xs (λ p h e b z. c .before .has-blank .ensures F M o .if-false (c .if3 .left) (subst (λ i. BlankOf M xs i) e b)),
     )
 
 pub blank-state-spec : {M : Type 1} → statement M

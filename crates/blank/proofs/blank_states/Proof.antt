@@ -35,13 +35,13 @@ blank-state-requires : tie.Need-blank-state-requires Inv-loop μ-loop
 blank-state-requires c κs =
     let c4 = c .before .before .before .before in
     let c8 = c4 .before .before .before .before in
-    c4 .loop .inv .0 .long ∙ c8 .pre
+    (c8 .pre .0, c4 .loop .inv .0 .long ∙ c8 .pre .1)
 
 add-k : tie.Need-add-k Inv-loop μ-loop
 add-k c =
     let c7 = c .before .before .before .before .before .before .before in
     let c11 = c7 .before .before .before .before in
-    omega (arith, grown-most (grown-then (c7 .loop .inv .0) (c .before .before .blank-state .ensures .0)) (c11 .pre))
+    omega (arith, grown-most (grown-then (c7 .loop .inv .0) (c .before .before .blank-state .ensures .0)) (c11 .pre .1))
 
 loop-less : tie.Need-loop-less Inv-loop μ-loop
 loop-less c = search needs
@@ -55,10 +55,10 @@ loop-again c =
     let c11 = c7 .before .before .before .before in
     let a = c11 .args in
     let l = c7 .loop in
+    let s = c .before .before .blank-state .ensures in
     let read = c4 .wide .ensures .0 ∙ c5 .byte .ensures in (
-      grown-then (l .inv .0) (c .before .before .blank-state .ensures .0),
-      λ F M o. among-more (a .order .now) (l .i) (a .n) (c4 .wide .result) (c6 .loop-test .taken) read (l .inv .1 F M o)
-          (c .before .before .blank-state .ensures .1 F M o),
+      grown-then (l .inv .0) (s .0),
+      λ F M o. among-more (a .order .now) (l .i) (a .n) (c4 .wide .result) (c6 .loop-test .taken) read (l .inv .1 F M o) (s .1 F M o),
     )
 
 same-length : tie.Need-same-length Inv-loop μ-loop

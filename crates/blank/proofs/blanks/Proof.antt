@@ -26,11 +26,12 @@ abbrev μ-loop : tie.MeasureT-loop
 
 loop-holds : tie.Need-loop-holds Inv-loop μ-loop
 loop-holds c =
-    (c .before .before .before .pre .0, λ F M o. zeros-blanks M (c .before .before .before .args .values .now) (c .before .before .before .pre .1))
+    (c .before .before .before .pre .1, λ F M o. zeros-blanks M (c .before .before .before .args .values .now) (c .before .before .before .pre .2))
 
 blank-states-requires : tie.Need-blank-states-requires Inv-loop μ-loop
 blank-states-requires c κs =
-    c .before .loop .inv .0
+    let c5 = c .before .before .before .before .before in
+    (c5 .pre .0, c .before .loop .inv .0)
 
 loop-less : tie.Need-loop-less Inv-loop μ-loop
 loop-less c =
@@ -39,17 +40,15 @@ loop-less c =
 
 loop-again : tie.Need-loop-again Inv-loop μ-loop
 loop-again c =
-    let c5 = c .before .before .before .before .before in (
-      c .before .before .before .blank-states .ensures .0 .long
-          ∙ c5 .loop .inv .0,
-      λ F M o. c .before .before .before .blank-states .ensures .1 F M o .keeps (c5 .loop .inv .1 F M o),
-    )
+    let c5 = c .before .before .before .before .before in
+    let s = c .before .before .before .blank-states .ensures in
+    (s .0 .long ∙ c5 .loop .inv .0, λ F M o. s .1 F M o .keeps (c5 .loop .inv .1 F M o))
 
 same-length : tie.Need-same-length Inv-loop μ-loop
 same-length c =
     let c5 = c .before .before .before .before .before in
     let c9 = c5 .before .before .before .before in
-    c .before .before .before .blank-states .ensures .0 .long ∙ c5 .loop .inv .0 ∙ sym (c9 .pre .0)
+    c .before .before .before .blank-states .ensures .0 .long ∙ c5 .loop .inv .0 ∙ sym (c9 .pre .1)
 
 returns : tie.Need-returns Inv-loop μ-loop
 returns c =

@@ -1,7 +1,6 @@
 -- `has_blank` meets its contract. Invariant: no rule of the state before number i is such a rule.
 use native.Mathlib.Omega.{arith}
 use borrow.Author.Needs.{needs}
-use mathlib.Core.Path.{_≡_}
 use mathlib.Core.List.{List}
 use Prim.Native.Nat.{ℕ, _-_, _≤_}
 use Rattle.words.proofs.Told.{told-yes, told-no}
@@ -21,15 +20,15 @@ abbrev μ-loop : tie.MeasureT-loop
 μ-loop numbers q values to i₀ i =
     to - i
 
-rules-of-requires : tie.Need-rules-of-requires Inv-loop μ-loop
-rules-of-requires c κs = search needs
+rules-in-requires : tie.Need-rules-in-requires Inv-loop μ-loop
+rules-in-requires c κs = search needs
 
 loop-holds : tie.Need-loop-holds Inv-loop μ-loop
 loop-holds c =
-    (omega arith, c .rules-of .ensures .0 .0, λ F M o. (c .rules-of .ensures .1 F M o, λ j row e a b. absurd (omega arith)))
+    (omega arith, c .rules-in .ensures .0 .0, λ F M o. (c .rules-in .ensures .1 F M o, λ j row e a b. absurd (omega arith)))
 
-kept-of-requires : tie.Need-kept-of-requires Inv-loop μ-loop
-kept-of-requires c κs = search needs
+kept-at-requires : tie.Need-kept-at-requires Inv-loop μ-loop
+kept-at-requires c κs = search needs
 
 blank-rule-requires : tie.Need-blank-rule-requires Inv-loop μ-loop
 blank-rule-requires c κs = search needs
@@ -38,10 +37,14 @@ returns : tie.Need-returns Inv-loop μ-loop
 returns c =
     let c4 = c .before .before .before .before in
     let c8 = c4 .before .before .before .before in
+    let xs = c8 .args .values .now in
+    let l = c4 .loop in
+    let b = c .before .blank-rule in
     λ F M o.
-    let v = c4 .loop .inv .2 F M o in
-    told-yes (one-found M (c8 .args .values .now) _ (v .0) (c4 .loop .i) (c4 .loop .inv .0) (c .before .before .before .loop-test .taken)
-    (λ row e. c .before .blank-rule .ensures (c4 .loop .i) (row .rule) (c .before .before .kept-of .ensures F M row o e) .if-true (c .if1 .taken)))
+    let v = l .inv .2 F M o in
+    told-yes
+    (one-found M xs _ (v .0) (l .i) (l .inv .0) (c .before .before .before .loop-test .taken)
+    (λ row e. b .ensures (l .i) (row .rule) (c .before .before .kept-at .ensures F M row o e) .if-true (c .if1 .taken)))
 
 add-i : tie.Need-add-i Inv-loop μ-loop
 add-i c = search needs
@@ -52,14 +55,17 @@ loop-less c = search needs
 loop-again : tie.Need-loop-again Inv-loop μ-loop
 loop-again c =
     let c4 = c .before .before .before .before in
-    let c8 = c4 .before .before .before .before in (
-      omega (arith, c4 .loop .inv .0),
-      c4 .loop .inv .1,
+    let c8 = c4 .before .before .before .before in
+    let xs = c8 .args .values .now in
+    let l = c4 .loop in
+    let b = c .before .blank-rule in (
+      omega (arith, l .inv .0),
+      l .inv .1,
       λ F M o.
-          let v = c4 .loop .inv .2 F M o in (
+          let v = l .inv .2 F M o in (
             v .0,
-            none-more M (c8 .args .values .now) _ (c4 .loop .i) (v .1)
-                (λ row e. c .before .blank-rule .ensures (c4 .loop .i) (row .rule) (c .before .before .kept-of .ensures F M row o e) .if-false (c .if1 .left)),
+            none-more M xs _ (l .i) (v .1)
+                (λ row e. b .ensures (l .i) (row .rule) (c .before .before .kept-at .ensures F M row o e) .if-false (c .if1 .left)),
           ),
     )
 
@@ -76,9 +82,9 @@ has-blank-spec =
     (tie.spec
     Inv-loop
     μ-loop
-    rules-of-requires
+    rules-in-requires
     loop-holds
-    kept-of-requires
+    kept-at-requires
     blank-rule-requires
     returns
     add-i

@@ -30,6 +30,7 @@ passes-requires c κs = search needs
 returns : tie.Need-returns Inv-loop μ-loop
 returns c =
     let c7 = c .before .before .before .before .before .before .before in
+    let c7 = c7 in
     let a = c7 .args in
     let l = c .before .before .before .loop in
     let p = c .before .passes in
@@ -47,6 +48,7 @@ loop-less c = search needs
 loop-again : tie.Need-loop-again Inv-loop μ-loop
 loop-again c =
     let c7 = c .before .before .before .before .before .before .before in
+    let c7 = c7 in
     let a = c7 .args in
     let l = c .before .before .before .loop in
     let p = c .before .passes in (
@@ -60,6 +62,7 @@ loop-again c =
 returns-2 : tie.Need-returns-2 Inv-loop μ-loop
 returns-2 c =
     let c5 = c .before .before .before .before .before in
+    let c5 = c5 in
     let a = c5 .args in
     let l = c .before .loop in
     λ M. least-end (passesAt (a .number) M (a .marks .now) (a .left .now) (a .right .now)) (a .count) (l .q) (omega arith) ∙ l .inv .1 M

@@ -32,14 +32,16 @@ returns-4 : tie.Need-returns-4
 returns-4 c =
     let c7 = c .before .before .before .before .before .before .before in
     let a = c7 .args in
-    λ M o. least-none (a .number) M (a .marks .now) (a .left .now) (a .right .now) (λ e. omega arith) (λ e. omega arith) (λ e. omega arith)
+    λ M o.
+    least-none (a .number) M (a .marks .now) (a .left .now) (a .right .now) (λ e. omega arith) (λ e. omega arith) (λ e. omega arith)
     (λ e. omega arith) (λ e. omega arith) (λ e. omega arith)
 
 returns-5 : tie.Need-returns-5
 returns-5 c =
     let c8 = c .before .before .before .before .before .before .before .before in
     let a = c8 .args in
-    λ M o. least-none (a .number) M (a .marks .now) (a .left .now) (a .right .now) (λ e. omega arith) (λ e. omega arith) (λ e. omega arith)
+    λ M o.
+    least-none (a .number) M (a .marks .now) (a .left .now) (a .right .now) (λ e. omega arith) (λ e. omega arith) (λ e. omega arith)
     (λ e. omega arith) (c .before .before .match .rest .0 .1) (c .before .before .match .rest .1)
 
 pub place-of-fault-spec : {M : Type 1} → statement M

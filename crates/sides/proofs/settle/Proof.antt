@@ -18,8 +18,8 @@ use Rattle.sides.proofs.settle.Tie as tie
 abbrev Inv-loop : tie.InvT-loop
 Inv-loop frames numbers order n side values₀ values =
     (length values ≡ statesMost)
-    × ((M : Table) → Opened frames numbers M → (Witnessed M (sideOf side) (K values₀) → Witnessed M (sideOf side) (K values))
-    × (EmptyTold M (K values₀) → EmptyTold M (K values)))
+    × ((M : Table) → Opened frames numbers M
+    → (Witnessed M (sideOf side) (K values₀) → Witnessed M (sideOf side) (K values)) × (EmptyTold M (K values₀) → EmptyTold M (K values)))
 
 abbrev μ-loop : tie.MeasureT-loop
 μ-loop frames numbers order n side values₀ values =
@@ -28,11 +28,12 @@ abbrev μ-loop : tie.MeasureT-loop
 loop-holds : tie.Need-loop-holds Inv-loop μ-loop
 loop-holds c =
     let c4 = c .before .before .before .before in
-    (c4 .pre, λ M o. (λ W. W, λ T. T))
+    (c4 .pre .1, λ M o. (λ W. W, λ T. T))
 
 add-states-requires : tie.Need-add-states-requires Inv-loop μ-loop
 add-states-requires c κs =
-    c .before .loop .inv .0
+    let c6 = c .before .before .before .before .before .before in
+    (c6 .pre .0, c .before .loop .inv .0)
 
 loop-less : tie.Need-loop-less Inv-loop μ-loop
 loop-less c =
@@ -54,7 +55,7 @@ same-length : tie.Need-same-length Inv-loop μ-loop
 same-length c =
     let c5 = c .before .before .before .before .before in
     let c10 = c5 .before .before .before .before .before in
-    c .before .before .before .add-states .ensures .0 .long ∙ c5 .loop .inv .0 ∙ sym (c10 .pre)
+    c .before .before .before .add-states .ensures .0 .long ∙ c5 .loop .inv .0 ∙ sym (c10 .pre .1)
 
 returns : tie.Need-returns Inv-loop μ-loop
 returns c =

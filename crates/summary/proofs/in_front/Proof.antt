@@ -17,6 +17,7 @@ returns-3 c = front-first (c .before .before .before .args .x) (c .before .befor
 returns-4 : tie.Need-returns-4
 returns-4 c =
     let c4 = c .before .before .before .before in
+    let c4 = c4 in
     let c5 = c4 .before in
     let a = c5 .args in
     front-second (a .x) (a .y) (c4 .if1 .left) (c .before .before .before .if2 .left) (c .before .letters-joined .result)
@@ -25,6 +26,7 @@ returns-4 c =
 returns-5 : tie.Need-returns-5
 returns-5 c =
     let c4 = c .before .before .before .before in
+    let c4 = c4 in
     let c5 = c4 .before in
     let a = c5 .args in
     front-blank (a .x) (a .y) (c4 .if1 .left) (c .before .before .before .if2 .left) (c .before .letters-joined .result)

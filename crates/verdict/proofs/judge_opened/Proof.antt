@@ -7,29 +7,32 @@ use borrow.Author.Needs.{needs}
 use Rattle.verdict.proofs.judge_opened.Statement.{statement}
 use Rattle.verdict.proofs.judge_opened.Tie as tie
 
+returns : tie.Need-returns
+returns c =
+    λ M o. absurd (c .if1 .taken (o .numbers))
+
 reach-requires : tie.Need-reach-requires
 reach-requires c κs =
     (length-replicate {A = ℕ} statesMost 0, length-replicate {A = ℕ} statesMost 0, begun-zeros)
 
 blanks-requires : tie.Need-blanks-requires
 blanks-requires c κs =
-    (length-replicate {A = ℕ} statesMost 0, begun-zeros)
+    let c7 = c .before .before .before .before .before .before .before in
+    (c7 .if1 .left, length-replicate {A = ℕ} statesMost 0, begun-zeros)
 
-returns : tie.Need-returns
-returns c =
+returns-2 : tie.Need-returns-2
+returns-2 c =
     let c5 = c .before .before .before .before .before in
     let c9 = c5 .before .before .before .before in
     let c13 = c9 .before .before .before .before in
     let c18 = c13 .before .before .before .before .before in
     let b = c13 .blanks .ensures .1 in
-    let l = c9 .settle in
-    let r = c5 .settle2 in
     done-judged record {
       reaches = c18 .reach .ensures .1;
       blanks = b .0;
       empties = b .1;
-      lefts = l .ensures;
-      rights = r .ensures;
+      lefts = c9 .settle .ensures;
+      rights = c5 .settle2 .ensures;
       verdict = c .first-fault .ensures;
     }
 
@@ -37,6 +40,7 @@ pub judge-opened-spec : {M : Type 1} → statement M
 judge-opened-spec =
     tie.close
     (tie.spec
+    returns
     (λ c. search needs)
     (λ c. search needs)
     reach-requires
@@ -53,4 +57,4 @@ judge-opened-spec =
     (λ c. search needs)
     (λ c. search needs)
     (λ c κs. search needs)
-    returns)
+    returns-2)

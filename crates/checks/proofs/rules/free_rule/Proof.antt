@@ -1,51 +1,51 @@
 -- `free_rule` meets its contract. Invariant: the children that are left tell what all tell.
 use native.Mathlib.Omega.{arith}
 use borrow.Author.Needs.{needs}
-use mathlib.Core.Path.{_≡_, ap, _∙_}
+use mathlib.Core.Path.{ap, _∙_}
 use Prim.Native.Nat.{_<_}
 use Rattle.machine.specs.Machine.{Row, Table}
 use Rattle.ends.specs.Ends.{stuck}
-use Rattle.layout.specs.Layout.{framesSize, Opened}
+use Rattle.layout.specs.Layout.{Opened}
 use Rattle.layout.specs.Leaves.{RowAt}
 use Rattle.summary.specs.Codes.{decode}
-use Rattle.sides.proofs.Walks.{ahead-begun, ahead-more, ahead-none}
+use Rattle.layout.proofs.Ahead.{ahead-begun, ahead-more, ahead-none}
 use Rattle.checks.proofs.Rows.{Rest, rest-begun, rest-more, rest-stuck, rest-done}
 use Rattle.checks.proofs.rules.free_rule.Statement.{statement}
 use Rattle.checks.proofs.rules.free_rule.Tie as tie
 
 abbrev Inv-loop : tie.InvT-loop
-Inv-loop frames numbers i left kids₀ p₀ kids p =
-    (p < framesSize) × ((M : Table) (row : Row) → Opened frames numbers M → RowAt M i row → Rest frames left p kids (row .rule .rest))
+Inv-loop frames numbers i left kids₀ p₀ n₀ kids p n =
+    (n < 256) × ((M : Table) (row : Row) → Opened frames numbers M → RowAt M i row → Rest frames left p n kids (row .rule .rest))
 
 abbrev μ-loop : tie.MeasureT-loop
-μ-loop frames numbers i left kids₀ p₀ kids p =
+μ-loop frames numbers i left kids₀ p₀ n₀ kids p n =
     kids
 
-kept-of-requires : tie.Need-kept-of-requires Inv-loop μ-loop
-kept-of-requires c κs = search needs
+laid-at-requires : tie.Need-laid-at-requires Inv-loop μ-loop
+laid-at-requires c κs = search needs
 
-kids-in-requires : tie.Need-kids-in-requires Inv-loop μ-loop
-kids-in-requires c κs = search needs
-
-spot-of-requires : tie.Need-spot-of-requires Inv-loop μ-loop
-spot-of-requires c κs = search needs
+letters-at-requires : tie.Need-letters-at-requires Inv-loop μ-loop
+letters-at-requires c κs = search needs
 
 loop-holds : tie.Need-loop-holds Inv-loop μ-loop
 loop-holds c =
-    let c6 = c .before .before .before .before .before .before in
-    let a = c6 .args in
-    let F = a .frames .now in (
-      omega (arith, c .spot-of .ensures .0),
+    let c5 = c .before .before .before .before .before in
+    let a = c5 .args in (
+      c .letters-at .ensures .0,
       λ M row o e.
-          let kids = c .before .kids-in .ensures .1 (a .i) (row .rule) (c .before .before .kept-of .ensures F M row o e) in
-          rest-begun (a .left .now) (ahead-begun o (a .i) row e (c .spot-of .ensures .1 F M row o e) kids),
+          let laid = c .before .laid-at .ensures (a .frames .now) M row o e in
+          let long = c .letters-at .ensures .1 (row .rule .first) (row .rule .rest) (laid .spot) in
+          rest-begun (a .left .now) (ahead-begun o (a .i) row e (laid .spot) (laid .kids)) long,
     )
 
-state-behind-requires : tie.Need-state-behind-requires Inv-loop μ-loop
-state-behind-requires c κs = search needs
+state-past-requires : tie.Need-state-past-requires Inv-loop μ-loop
+state-past-requires c κs = search needs
 
-next-spot-requires : tie.Need-next-spot-requires Inv-loop μ-loop
-next-spot-requires c κs = search needs
+spot-past-requires : tie.Need-spot-past-requires Inv-loop μ-loop
+spot-past-requires c κs = search needs
+
+letters-at-requires-2 : tie.Need-letters-at-requires-2 Inv-loop μ-loop
+letters-at-requires-2 c κs = search needs
 
 kept-requires : tie.Need-kept-requires Inv-loop μ-loop
 kept-requires c κs = search needs
@@ -58,14 +58,16 @@ returns c =
     let c4 = c .before .before .before .before in
     let c5 = c4 .before in
     let c6 = c5 .before in
-    let c13 = c6 .before .before .before .before .before .before .before in
+    let c7 = c6 .before in
+    let c13 = c7 .before .before .before .before .before .before in
     let xs = c13 .args .left .now in
     let s = c .before .stuck-at in
     λ M row o e.
-    let l = c6 .loop .inv .1 M row o e in
-    let t = ahead-more (l .ahead) (c5 .loop-test .taken) (o .bytes) (c4 .state-behind .ensures .1) (c .before .before .before .next-spot .ensures .1) in
+    let l = c7 .loop .inv .1 M row o e in
+    let t = ahead-more (l .ahead) (c6 .loop-test .taken) (o .bytes) (l .long) (c5 .state-past .ensures .1) (c4 .spot-past .ensures) in
     let w = t .child .after in
-    let test = s .ensures w (t .rest) (t .ahead .spot) ∙ ap (λ n. stuck (decode n) w) (c .before .before .kept .ensures) in
+    let long = c .before .before .before .letters-at2 .ensures .1 w (t .rest) (t .ahead .spot) in
+    let test = s .ensures w (t .rest) (t .ahead .spot) long ∙ ap (λ k. stuck (decode k) w) (c .before .before .kept .ensures) in
     rest-stuck xs l t (s .result) test (c .if1 .taken)
 
 sub-kids : tie.Need-sub-kids Inv-loop μ-loop
@@ -79,22 +81,24 @@ loop-again c =
     let c4 = c .before .before .before .before in
     let c5 = c4 .before in
     let c6 = c5 .before in
-    let c13 = c6 .before .before .before .before .before .before .before in
+    let c7 = c6 .before in
+    let c13 = c7 .before .before .before .before .before .before in
     let xs = c13 .args .left .now in
     let s = c .before .stuck-at in (
-      c .before .before .before .next-spot .ensures .0,
+      c .before .before .before .letters-at2 .ensures .0,
       λ M row o e.
-          let l = c6 .loop .inv .1 M row o e in
-          let t = ahead-more (l .ahead) (c5 .loop-test .taken) (o .bytes) (c4 .state-behind .ensures .1) (c .before .before .before .next-spot .ensures .1) in
+          let l = c7 .loop .inv .1 M row o e in
+          let t = ahead-more (l .ahead) (c6 .loop-test .taken) (o .bytes) (l .long) (c5 .state-past .ensures .1) (c4 .spot-past .ensures) in
           let w = t .child .after in
-          let test = s .ensures w (t .rest) (t .ahead .spot) ∙ ap (λ n. stuck (decode n) w) (c .before .before .kept .ensures) in
-          rest-more xs l t (s .result) test (c .if1 .left),
+          let long = c .before .before .before .letters-at2 .ensures .1 w (t .rest) (t .ahead .spot) in
+          let test = s .ensures w (t .rest) (t .ahead .spot) long ∙ ap (λ k. stuck (decode k) w) (c .before .before .kept .ensures) in
+          rest-more xs l t (s .result) test long (c .if1 .left),
     )
 
 returns-2 : tie.Need-returns-2 Inv-loop μ-loop
 returns-2 c =
-    let c8 = c .before .before .before .before .before .before .before .before in
-    λ M row o e. let l = c .before .loop .inv .1 M row o e in rest-done (c8 .args .left .now) l (ahead-none (l .ahead) (omega arith))
+    let c7 = c .before .before .before .before .before .before .before in
+    λ M row o e. let l = c .before .loop .inv .1 M row o e in rest-done (c7 .args .left .now) l (ahead-none (l .ahead) (omega arith))
 
 pub free-rule-spec : {M : Type 1} → statement M
 free-rule-spec =
@@ -102,12 +106,12 @@ free-rule-spec =
     (tie.spec
     Inv-loop
     μ-loop
-    kept-of-requires
-    kids-in-requires
-    spot-of-requires
+    laid-at-requires
+    letters-at-requires
     loop-holds
-    state-behind-requires
-    next-spot-requires
+    state-past-requires
+    spot-past-requires
+    letters-at-requires-2
     kept-requires
     stuck-at-requires
     returns

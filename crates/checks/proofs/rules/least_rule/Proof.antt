@@ -2,7 +2,7 @@
 use native.Mathlib.Omega.{arith}
 use borrow.Author.Needs.{needs}
 use borrow.Author.Tests.{not-true, not-false}
-use mathlib.Core.Path.{_≡_, sym, ap, _∙_}
+use mathlib.Core.Path.{_≡_, ap, _∙_}
 use Prim.Native.Nat.{_-_, _≤_}
 use lib.ListN.{length, getElem?}
 use Rattle.machine.specs.Machine.{Table}
@@ -40,8 +40,11 @@ rules-requires c κs = search needs
 loop-holds : tie.Need-loop-holds Inv-loop μ-loop
 loop-holds c =
     let c6 = c .before .before .before .before .before .before in
-    let a = c6 .args in
-    (omega arith, c .rules .ensures .0, λ M o. (c .rules .ensures .1 (a .frames .now) M o, ap (λ n. least (freeAt M (a .left .now)) n 0) (omega arith)))
+    let a = c6 .args in (
+      omega arith,
+      c .rules .ensures .0,
+      λ M o. (c .rules .ensures .1 (a .frames .now) M o, ap (λ n. least (freeAt M (a .left .now)) n 0) (omega arith)),
+    )
 
 free-rule-requires : tie.Need-free-rule-requires Inv-loop μ-loop
 free-rule-requires c κs = search needs
@@ -53,11 +56,12 @@ returns-2 c =
     let xs = c10 .args .left .now in
     let l = c .before .before .before .loop in
     let f = c .before .free-rule in
+    let n = c4 .rules .result in
     λ M o.
     let v = l .inv .2 M o in
     let test = row-test M xs (l .i) (f .result) (omega (arith, v .0, c .before .before .loop-test .taken)) (λ row e. f .ensures M row o e) in
-    least-here (freeAt M xs) (c4 .rules .result) (l .i) (c .before .before .loop-test .taken) (test ∙ not-true _ (c .if2 .taken)) ∙ v .1 ∙ ap
-    (λ n. least (freeAt M xs) n 0) (v .0)
+    least-here (freeAt M xs) n (l .i) (c .before .before .loop-test .taken) (test ∙ not-true _ (c .if2 .taken)) ∙ v .1 ∙ ap
+    (λ k. least (freeAt M xs) k 0) (v .0)
 
 add-i : tie.Need-add-i Inv-loop μ-loop
 add-i c = search needs
@@ -71,13 +75,14 @@ loop-again c =
     let c10 = c4 .before .before .before .before .before .before in
     let xs = c10 .args .left .now in
     let l = c .before .before .before .loop in
-    let f = c .before .free-rule in (
+    let f = c .before .free-rule in
+    let n = c4 .rules .result in (
       omega arith,
       l .inv .1,
       λ M o.
           let v = l .inv .2 M o in
           let test = row-test M xs (l .i) (f .result) (omega (arith, v .0, c .before .before .loop-test .taken)) (λ row e. f .ensures M row o e) in
-          (v .0, least-on (freeAt M xs) (c4 .rules .result) (l .i) (c .before .before .loop-test .taken) (test ∙ not-false _ (c .if2 .left)) ∙ v .1),
+          (v .0, least-on (freeAt M xs) n (l .i) (c .before .before .loop-test .taken) (test ∙ not-false _ (c .if2 .left)) ∙ v .1),
     )
 
 returns-3 : tie.Need-returns-3 Inv-loop μ-loop

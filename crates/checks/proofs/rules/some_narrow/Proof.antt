@@ -43,6 +43,7 @@ loop-less c = search needs
 loop-again : tie.Need-loop-again Inv-loop μ-loop
 loop-again c =
     let c4 = c .before .before .before .before in
+    let c4 = c4 in
     let c6 = c4 .before .before in
     let l = c4 .loop in
     let xs : List ℕ = c6 .args .left .now in

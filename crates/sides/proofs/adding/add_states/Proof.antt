@@ -37,13 +37,13 @@ add-state-requires : tie.Need-add-state-requires Inv-loop μ-loop
 add-state-requires c κs =
     let c4 = c .before .before .before .before in
     let c9 = c4 .before .before .before .before .before in
-    c4 .loop .inv .0 .long ∙ c9 .pre
+    (c9 .pre .0, c4 .loop .inv .0 .long ∙ c9 .pre .1)
 
 add-k : tie.Need-add-k Inv-loop μ-loop
 add-k c =
     let c7 = c .before .before .before .before .before .before .before in
     let c12 = c7 .before .before .before .before .before in
-    omega (arith, grown-most (grown-then (c7 .loop .inv .0) (c .before .before .add-state .ensures .0)) (c12 .pre))
+    omega (arith, grown-most (grown-then (c7 .loop .inv .0) (c .before .before .add-state .ensures .0)) (c12 .pre .1))
 
 loop-less : tie.Need-loop-less Inv-loop μ-loop
 loop-less c = search needs

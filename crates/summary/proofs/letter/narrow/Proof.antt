@@ -2,8 +2,8 @@
 use borrow.Author.Tests.{ltb-false}
 use Prim.Native.Nat.{_%_}
 use Rattle.summary.proofs.Tests.{firm-without, firm-several}
-use Rattle.summary.proofs.word.narrow.Statement.{statement}
-use Rattle.summary.proofs.word.narrow.Tie as tie
+use Rattle.summary.proofs.letter.narrow.Statement.{statement}
+use Rattle.summary.proofs.letter.narrow.Tie as tie
 
 returns : tie.Need-returns
 returns c =

@@ -1,0 +1,65 @@
+// The rules by number, read with no test: the numbers are as many as an opened table's.
+ghost use mathlib.Core.Path.{_≡_};
+ghost use mathlib.Core.List.{List};
+ghost use Prim.Native.Nat.{ℕ, _<_, _≤_};
+ghost use lib.ListN.{length};
+ghost use Rattle.text.specs.Limits.{statesMost, rowsMost};
+ghost use Rattle.machine.specs.Machine.{Row, Table};
+ghost use Rattle.layout.specs.Layout.{numbersSize, Opened, rowsBefore};
+ghost use Rattle.layout.specs.Leaves.{RowAt, Holds, RulesOf, LaidOut};
+use crate::kept::kids_in;
+use crate::rule::Rules;
+
+// Where a rule's first word stands, and how many children the rule has.
+pub struct Laid {
+    pub spot: usize,
+    pub kids: usize,
+}
+
+// What is kept for the state and the symbol of rule number i.
+pub fn kept_at(numbers: &[u64], i: usize) -> u64
+    requires { ⌜ (length (now numbers) ≡ numbersSize) × (i < rowsMost) ⌝ }
+    ensures { λ x. ⌜ ((F : List ℕ) (M : Table) (r : Row) → Opened F (now (numbers .entry)) M → RowAt M i r → Holds x i (r .rule)) ⌝ }
+{
+    let key = numbers[80 + i] / 131072 % 4096;
+    numbers[592 + key as usize]
+}
+
+// The spot of the first word of rule number i, and how many children it has.
+pub fn laid_at(numbers: &[u64], i: usize) -> Laid
+    requires { ⌜ (length (now numbers) ≡ numbersSize) × (i < rowsMost) ⌝ }
+    ensures { λ l. ⌜ ((F : List ℕ) (M : Table) (r : Row) → Opened F (now (numbers .entry)) M → RowAt M i r → LaidOut F (r .rule) l) ⌝ }
+{
+    Laid {
+        spot: (numbers[80 + i] % 16384) as usize,
+        kids: kids_in(kept_at(numbers, i)),
+    }
+}
+
+// The number of the first rule of state q, at most 512.
+fn first_in_all(numbers: &[u64], q: usize) -> usize
+    requires { ⌜ (length (now numbers) ≡ numbersSize) × (q ≤ statesMost) ⌝ }
+    ensures { λ n. ⌜ n ≤ rowsMost ⌝ }
+    ensures { λ n. ⌜ ((F : List ℕ) (M : Table) → Opened F (now (numbers .entry)) M → q ≤ M .states → n ≡ rowsBefore q (M .rows)) ⌝ }
+{
+    let n = numbers[8 + q];
+    if n < 512 { n as usize } else { 512 }
+}
+
+// The rules of state q: none if it is not one of the table.
+pub fn rules_in(numbers: &[u64], q: usize) -> Rules
+    requires { ⌜ length (now numbers) ≡ numbersSize ⌝ }
+    ensures { λ r. ⌜ (r .to ≤ rowsMost) × (r .from ≤ rowsMost) ⌝ }
+    ensures { λ r. ⌜ ((F : List ℕ) (M : Table) → Opened F (now (numbers .entry)) M → RulesOf M q (r .from) (r .to)) ⌝ }
+{
+    if 64 <= q {
+        return Rules { from: 0, to: 0 };
+    }
+    if numbers[1] <= q as u64 {
+        return Rules { from: 0, to: 0 };
+    }
+    Rules {
+        from: first_in_all(numbers, q),
+        to: first_in_all(numbers, q + 1),
+    }
+}
