@@ -8,9 +8,8 @@ use Rattle.machine.specs.Machine.{Row, Table}
 use Rattle.text.specs.Frames as text
 use Rattle.text.specs.Writing.{rowFrame, initialFrame}
 use Rattle.layout.specs.Layout.{rowFrames, headFrames}
-use Rattle.layout.specs.Leaves.{headOf}
 use Rattle.layout.proofs.Growing.{rows-more}
-use Rattle.frames.specs.Staged.{key, Numbers, moreRules, behindRule}
+use Rattle.frames.specs.Staged.{headOf, key, Numbers, moreRules, behindRule}
 use Rattle.frames.specs.declared.Stage.{Stage}
 use Rattle.frames.proofs.RuleKeys.{last-snoc, before-snoc}
 

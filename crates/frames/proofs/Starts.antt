@@ -14,13 +14,12 @@ use Rattle.text.specs.Writing.{textOf, initialFrame}
 use Rattle.text.proofs.Fields.{then-got, within-inv, below-inv, text-inv}
 use Rattle.text.proofs.Faults.{then-fault}
 use Rattle.layout.specs.Layout.{symbolFrames, headFrames, rowFrames}
-use Rattle.layout.specs.Leaves.{headOf}
-use Rattle.layout.specs.declared.Head.{Head}
+use Rattle.frames.specs.declared.Head.{Head}
 use Rattle.layout.proofs.Fit.{length-symbols}
 use Rattle.fields.proofs.Slices.{slice-none}
 use Rattle.fields.proofs.Numbers.{IsNumber}
 use Rattle.fields.proofs.Words.{IsWord}
-use Rattle.frames.specs.Staged.{kept, AtSymbols, AtRules, behindStart}
+use Rattle.frames.specs.Staged.{headOf, kept, AtSymbols, AtRules, behindStart}
 use Rattle.frames.specs.declared.Stage.{Stage}
 use Rattle.frames.proofs.StepFrames.{frame-more, frame-long}
 

@@ -9,14 +9,26 @@ use Rattle.text.specs.Frames as frames
 use Rattle.text.specs.Fields as fields
 use Rattle.text.specs.Fields.{Parsed, got, fault, _>>=_, pure}
 use Rattle.text.specs.Writing.{rowFrame, AtMost}
-use Rattle.layout.specs.Layout.{symbolFrames, rowFrames, headFrames, framesOf, entryOf, rowNumber}
-use Rattle.layout.specs.Leaves.{headOf}
-use Rattle.layout.specs.declared.Head.{Head}
+use Rattle.layout.specs.Layout.{beforeAt, afterAt, symbolFrames, rowFrames, headFrames, framesOf, entryOf, rowNumber}
+use Rattle.frames.specs.declared.Head.{Head}
 use Rattle.frames.specs.declared.Stage.{Stage}
 use Rattle.frames.specs.declared.Entry.{Entry}
 use Rattle.frames.specs.declared.Entry.the-variants as entry
 use Rattle.frames.specs.declared.Next.{Next}
 use Rattle.frames.specs.declared.Next.the-variants as next
+
+-- What is known of a table's head while its text is read.
+abbrev pub headOf : Table → Head
+headOf M =
+    record {
+      symbols = length (M .arities);
+      states = M .states;
+      start = M .start;
+      before = beforeAt M;
+      after = afterAt M;
+      rows = length (headFrames M);
+      rules = length (M .rows);
+    }
 
 -- A row's place in the order of rows: by state and then symbol.
 abbrev pub key : Row → ℕ

@@ -1,7 +1,6 @@
 // The frames of a table text: what each makes of the table read so far.
 use fields::Field;
 use fields::Kids;
-use layout::Head;
 ghost use mathlib.Core.Path.{_≡_};
 ghost use mathlib.Core.List.{List, []};
 ghost use Prim.Native.Nat.{ℕ, _+_, _*_, _^_, _<_, _≤_};
@@ -12,6 +11,18 @@ ghost use Rattle.text.specs.Frames as text;
 ghost use Rattle.fields.specs.Read.{faultOf};
 ghost use Rattle.frames.specs.Staged.{AtSymbols, AtRules, Staged, Stepped, ruleField, RuleRead, Appended};
 ghost use Rattle.frames.specs.Staged.{refusedBy, numberOf, behindStart, behindRule};
+
+// What is known of a table's head while its text is read: its counts, its initial state, where the
+// initial words and the first rule's frame stand.
+pub struct Head {
+    pub symbols: usize,
+    pub states: usize,
+    pub start: usize,
+    pub before: usize,
+    pub after: usize,
+    pub rows: usize,
+    pub rules: usize,
+}
 
 // How far the reader is: 0 while it reads symbols, 1 rules, 2 behind the end frame; the table's
 // numbers so far; the least place in the order of rules for the next one; how many bytes are used.

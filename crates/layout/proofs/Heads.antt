@@ -8,8 +8,8 @@ use lib.ListN.{length, getD, drop, length-append}
 use lib.Seq.{drop-append-seam}
 use Rattle.machine.specs.Machine.{Table}
 use Rattle.text.specs.Writing.{textOf, initialFrame}
-use Rattle.layout.specs.Layout.{symbolFrames, rowFrames, headFrames, framesOf, Opened}
-use Rattle.layout.specs.Leaves.{wordAt, headOf}
+use Rattle.layout.specs.Layout.{symbolFrames, rowFrames, headFrames, framesOf, beforeAt, afterAt, Opened}
+use Rattle.layout.specs.Leaves.{wordAt}
 use Rattle.layout.proofs.Fit.{length-symbols}
 use Rattle.layout.proofs.Stretches.{byte-here, byte-behind, further, word-here}
 
@@ -30,7 +30,7 @@ unfolding headFrames initialFrame
 length-head M = simp length-append (omega (arith, length-symbols (M .arities)))
 
 -- The first rule's frame stands behind the initial rule's second word.
-pub rows-behind-after : (M : Table) → headOf M .rows ≡ headOf M .after + 1 + length (M .after)
+pub rows-behind-after : (M : Table) → length (headFrames M) ≡ afterAt M + 1 + length (M .after)
 rows-behind-after M = omega (arith, length-head M)
 
 module _ {F I : List ℕ} {M : Table} (o : Opened F I M) where
@@ -69,7 +69,7 @@ module _ {F I : List ℕ} {M : Table} (o : Opened F I M) where
   states-byte = byte-here F (2 * length (M .arities) + 1) (M .states) ((textOf (M .before) ++ M .start ∷ textOf (M .after)) ++ tail) states-there
 
   -- The initial rule's first word, its state and its second word stand behind the number of states.
-  before-there : drop (headOf M .before) F ≡ textOf (M .before) ++ (M .start ∷ textOf (M .after) ++ tail)
+  before-there : drop (beforeAt M) F ≡ textOf (M .before) ++ (M .start ∷ textOf (M .after) ++ tail)
   before-there =
       ap (λ (k : ℕ). drop k F) one-more ∙ byte-behind F (2 * length (M .arities) + 1) (M .states) ((textOf (M .before) ++ M .start ∷ textOf (M .after)) ++ tail) states-there
       ∙ append-assoc (textOf (M .before)) (M .start ∷ textOf (M .after)) tail
@@ -78,13 +78,13 @@ module _ {F I : List ℕ} {M : Table} (o : Opened F I M) where
       one-more = omega arith
 
   -- The initial rule's first word is read where the head says.
-  pub before-word : wordAt F (headOf M .before) ≡ M .before
-  before-word = word-here F (headOf M .before) (M .before) (M .start ∷ textOf (M .after) ++ tail) before-there
+  pub before-word : wordAt F (beforeAt M) ≡ M .before
+  before-word = word-here F (beforeAt M) (M .before) (M .start ∷ textOf (M .after) ++ tail) before-there
 
   -- The initial state stands behind that word.
   start-there : drop (2 * length (M .arities) + 3 + length (M .before)) F ≡ M .start ∷ textOf (M .after) ++ tail
   start-there =
-      ap (λ (k : ℕ). drop k F) word-more ∙ further F (headOf M .before) (textOf (M .before)) (M .start ∷ textOf (M .after) ++ tail) before-there
+      ap (λ (k : ℕ). drop k F) word-more ∙ further F (beforeAt M) (textOf (M .before)) (M .start ∷ textOf (M .after) ++ tail) before-there
     where
       word-more : 2 * length (M .arities) + 3 + length (M .before) ≡ 2 * length (M .arities) + 2 + suc (length (M .before))
       word-more = omega arith
@@ -94,7 +94,7 @@ module _ {F I : List ℕ} {M : Table} (o : Opened F I M) where
   start-byte = byte-here F (2 * length (M .arities) + 3 + length (M .before)) (M .start) (textOf (M .after) ++ tail) start-there
 
   -- The initial rule's second word stands behind its state.
-  after-there : drop (headOf M .after) F ≡ textOf (M .after) ++ tail
+  after-there : drop (afterAt M) F ≡ textOf (M .after) ++ tail
   after-there =
       ap (λ (k : ℕ). drop k F) one-more ∙ byte-behind F (2 * length (M .arities) + 3 + length (M .before)) (M .start) (textOf (M .after) ++ tail) start-there
     where
@@ -102,9 +102,9 @@ module _ {F I : List ℕ} {M : Table} (o : Opened F I M) where
       one-more = omega arith
 
   -- The initial rule's second word is read where the head says.
-  pub after-word : wordAt F (headOf M .after) ≡ M .after
-  after-word = word-here F (headOf M .after) (M .after) tail after-there
+  pub after-word : wordAt F (afterAt M) ≡ M .after
+  after-word = word-here F (afterAt M) (M .after) tail after-there
 
   -- The rules' frames, the end and what is left stand where the head says.
-  pub rows-there : drop (headOf M .rows) F ≡ rowFrames (M .rows) ++ 4 ∷ o .behind
+  pub rows-there : drop (length (headFrames M)) F ≡ rowFrames (M .rows) ++ 4 ∷ o .behind
   rows-there = ap (λ (l : List ℕ). drop (length (headFrames M)) l) head-first ∙ drop-append-seam (headFrames M) tail

@@ -10,7 +10,7 @@ pub mod Means
 pub mod Growing
 pub mod Ranges
 pub mod Spots
-pub mod Whole
+pub mod RuleBytes
 pub mod Children
 pub mod Putting
 pub mod Strides

@@ -7,8 +7,8 @@ use native.Mathlib.Omega.{arith}
 use lib.ListN.{length, getD, take, drop, getElem?}
 use Rattle.machine.specs.Machine.{Row, Table}
 use Rattle.text.specs.Writing.{rowFrame}
-use Rattle.layout.specs.Layout.{rowFrames, ruleText, Opened}
-use Rattle.layout.specs.Leaves.{RuleAt, headOf}
+use Rattle.layout.specs.Layout.{rowFrames, headFrames, ruleText, Opened}
+use Rattle.layout.specs.Leaves.{RuleAt}
 use Rattle.layout.proofs.Stretches.{byte-here, byte-behind, further}
 use Rattle.layout.proofs.Heads.{rows-there}
 
@@ -69,10 +69,10 @@ row-split (s ∷ rs) (suc i) r e =
 
 -- Where the frame of the row at index i stands in an opened table's bytes.
 pub row-there : {F I : List ℕ} {M : Table} (o : Opened F I M) (i : ℕ) (r : Row) → getElem? (M .rows) i ≡ some r
-    → drop (headOf M .rows + length (rowFrames (take i (M .rows)))) F ≡ rowFrame r ++ (rowFrames (drop (suc i) (M .rows)) ++ 4 ∷ o .behind)
+    → drop (length (headFrames M) + length (rowFrames (take i (M .rows)))) F ≡ rowFrame r ++ (rowFrames (drop (suc i) (M .rows)) ++ 4 ∷ o .behind)
 row-there {F} {I} {M} o i r e =
     let rest = rowFrames (drop (suc i) (M .rows)) in
     let end : List ℕ = 4 ∷ o .behind in
-    further F (headOf M .rows) (rowFrames (take i (M .rows))) (rowFrame r ++ (rest ++ end))
+    further F (length (headFrames M)) (rowFrames (take i (M .rows))) (rowFrame r ++ (rest ++ end))
     (rows-there o ∙ ap (λ (l : List ℕ). l ++ end) (row-split (M .rows) i r e) ∙ append-assoc (rowFrames (take i (M .rows))) (rowFrame r ++ rest) end
     ∙ ap (λ (l : List ℕ). rowFrames (take i (M .rows)) ++ l) (append-assoc (rowFrame r) rest end))

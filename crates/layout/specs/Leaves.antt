@@ -12,10 +12,6 @@ use Rattle.machine.specs.Form.{rowsOf}
 use Rattle.text.specs.Limits.{statesMost, lettersMost, arityMost, rowsMost}
 use Rattle.text.specs.Writing.{textOf, childrenText}
 use Rattle.layout.specs.Layout.{framesSize, headFrames, ruleText, ruleLetters, entryOf}
-use Rattle.layout.specs.declared.Head.{Head}
-use Rattle.layout.specs.declared.Place.{Place}
-use Rattle.layout.specs.declared.Lookup.{Lookup}
-use Rattle.layout.specs.declared.Lookup.the-variants.{Found, Missing}
 use Rattle.layout.specs.declared.whole.Laid.{Laid}
 use Rattle.layout.specs.declared.RuleOf.{RuleOf}
 use Rattle.layout.specs.declared.RuleOf.the-variants as ruled
@@ -32,37 +28,6 @@ behindAt F a = a + 1 + getD F a 0
 pub record RuleAt (F : List ℕ) (p : ℕ) (r : Rule) : Type 0 where
   pub behind : List ℕ
   pub bytes : drop p F ≡ ruleText r ++ behind
-
--- The place of a rule: where its bytes stand, how many children it has, how many letters it writes.
-pub record PlaceOf (F : List ℕ) (r : Rule) (p : Place) : Type 0 where
-  pub there : RuleAt F (p .at) r
-  pub kids : p .kids ≡ length (r .rest)
-  pub letters : p .letters ≡ ruleLetters r
-
--- What looking up the rule of q and f answers: found, and where, if the table has one; missing if it has none.
-abbrev pub LookedUp : List ℕ → Option Rule → Lookup → Type 0
-LookedUp F (some r) (Found p) = PlaceOf F r p
-LookedUp F (some r) Missing = ⊥
-LookedUp F none (Found p) = ⊥
-LookedUp F none Missing = Unit {0}
-
--- Whatever the index holds, a place that was found is within these bounds.
-abbrev pub Tame : Lookup → Type 0
-Tame (Found p) = (p .at < 16384) × (p .kids < 8) × (p .letters < 256)
-Tame Missing = Unit {0}
-
--- What a caller knows of an opened table besides its bytes: its counts, its initial state, where the initial words and the first rule's frame stand.
-abbrev pub headOf : Table → Head
-headOf M =
-    record {
-      symbols = length (M .arities);
-      states = M .states;
-      start = M .start;
-      before = 2 * length (M .arities) + 2;
-      after = 2 * length (M .arities) + 4 + length (M .before);
-      rows = length (headFrames M);
-      rules = length (M .rows);
-    }
 
 -- The row with number i.
 abbrev pub RowAt : Table → ℕ → Row → Type 0

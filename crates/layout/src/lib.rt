@@ -4,9 +4,9 @@ ghost use mathlib.Core.Path.{_≡_};
 ghost use mathlib.Core.List.{List};
 ghost use Prim.Native.Nat.{ℕ, _+_, _<_, _≤_};
 ghost use lib.ListN.{length, getD};
-ghost use Rattle.machine.specs.Machine.{Table, find};
+ghost use Rattle.machine.specs.Machine.{Table};
 ghost use Rattle.layout.specs.Layout.{Opened};
-ghost use Rattle.layout.specs.Leaves.{wordAt, behindAt, LookedUp, Tame, Sought};
+ghost use Rattle.layout.specs.Leaves.{wordAt, behindAt, Sought};
 pub use copy::put_word;
 pub use copy::spot_behind;
 pub use counts::arity;
@@ -83,36 +83,6 @@ pub const TREE: usize = 32768;
 
 pub const LEVELS: usize = 64;
 
-// A refusal: its number and its place.
-pub struct Refusal {
-    pub number: u8,
-    pub place: usize,
-}
-
-// What a caller knows of an opened table besides its bytes.
-pub struct Head {
-    pub symbols: usize,
-    pub states: usize,
-    pub start: usize,
-    pub before: usize,
-    pub after: usize,
-    pub rows: usize,
-    pub rules: usize,
-}
-
-// Where a rule's bytes stand, how many children it has, how many letters it writes.
-pub struct Place {
-    pub at: usize,
-    pub kids: usize,
-    pub letters: usize,
-}
-
-// The rule of a state and a symbol.
-pub enum Lookup {
-    Found(Place),
-    Missing,
-}
-
 // The rule of a state and a symbol: its number, or that there is none.
 pub enum RuleOf {
     Found(usize),
@@ -173,20 +143,4 @@ pub fn rule_number(numbers: &[u64], q: usize, f: usize) -> RuleOf
         return RuleOf::Missing;
     }
     RuleOf::Found(number_in(x))
-}
-
-// The rule of state q and symbol f: where it stands, or that there is none.
-pub fn rule_of(index: &[u64], q: usize, f: usize) -> Lookup
-    ensures { λ r. ⌜ ((F : List ℕ) (M : Table) → Opened F (now (index .entry)) M → LookedUp F (find (M .rows) q f) r) ⌝ }
-    ensures { λ r. ⌜ Tame r ⌝ }
-{
-    let x = kept_for(index, q, f);
-    if x == 0 {
-        return Lookup::Missing;
-    }
-    Lookup::Found(Place {
-        at: spot_of(index, number_in(x)),
-        kids: kids_in(x),
-        letters: letters_in(x),
-    })
 }

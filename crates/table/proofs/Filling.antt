@@ -7,8 +7,8 @@ use native.Mathlib.Decide.{decLt}
 use lib.ListN.{length, getD, drop}
 use Rattle.machine.specs.Machine.{Table}
 use Rattle.layout.specs.Layout.{entryIn, rowsBefore, HeadIn, Firsts, Listed, Grid}
-use Rattle.layout.specs.Leaves.{headOf}
-use Rattle.layout.specs.declared.Head.{Head}
+use Rattle.frames.specs.declared.Head.{Head}
+use Rattle.frames.specs.Staged.{headOf}
 use Rattle.table.specs.Opening.{Beyond}
 use Rattle.table.specs.Storing.{headNumbers, Put, Rules, entriesFrom, Filled}
 use Rattle.table.proofs.Puts.{put-front}

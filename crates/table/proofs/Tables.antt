@@ -9,9 +9,9 @@ use Rattle.machine.specs.Machine.{Table}
 use Rattle.text.specs.Reading.{readTable}
 use Rattle.text.proofs.Back.{write-read}
 use Rattle.layout.specs.Layout.{framesSize, numbersSize, framesOf, Opened}
-use Rattle.layout.specs.Leaves.{headOf}
-use Rattle.layout.specs.declared.Head.{Head}
+use Rattle.frames.specs.declared.Head.{Head}
 use Rattle.layout.proofs.Fit.{length-text, frames-fit}
+use Rattle.frames.specs.Staged.{headOf}
 use Rattle.table.specs.Opening.{Decoded, Reads, Opens, Unchanged}
 use Rattle.table.specs.Storing.{Rules, Filled}
 use Rattle.table.specs.declared.Decoding.{Decoding}

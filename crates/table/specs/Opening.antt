@@ -8,8 +8,7 @@ use Rattle.machine.specs.Machine.{Table}
 use Rattle.text.specs.Limits.{symbolsMost}
 use Rattle.text.specs.Writing.{Limited}
 use Rattle.layout.specs.Layout.{framesSize, firstsFrom, rulesFrom, gridFrom, framesOf, Opened}
-use Rattle.layout.specs.Leaves.{headOf}
-use Rattle.frames.specs.Staged.{Noted}
+use Rattle.frames.specs.Staged.{headOf, Noted}
 use Rattle.table.specs.declared.Opening.{Opening}
 use Rattle.table.specs.declared.Opening.the-variants as opening
 use Rattle.table.specs.declared.Decoding.{Decoding}

@@ -7,7 +7,7 @@ use Rattle.machine.specs.Machine.{Table}
 use Rattle.text.specs.Limits.{symbolsMost}
 use Rattle.text.specs.Writing.{Limited}
 use Rattle.layout.specs.Layout.{entryIn, rowsBefore, HeadIn, Firsts, Listed, Grid}
-use Rattle.layout.specs.declared.Head.{Head}
+use Rattle.frames.specs.declared.Head.{Head}
 use Rattle.frames.specs.Staged.{Noted}
 use Rattle.table.specs.Opening.{Beyond}
 

@@ -1,6 +1,6 @@
 // Filling the numbers of an opened table: its head, its states' first rules, its rules by their
 // numbers, what is kept for each state and symbol. What the table does not use is not written.
-use layout::Head;
+use frames::Head;
 ghost use mathlib.Core.Path.{_≡_};
 ghost use mathlib.Core.List.{_++_};
 ghost use Prim.Native.Nat.{ℕ, _+_, _*_, _/_, _%_, _<_, _≤_};
@@ -8,7 +8,7 @@ ghost use lib.ListN.{length, getD, drop};
 ghost use Rattle.machine.specs.Machine.{Table};
 ghost use Rattle.text.specs.Limits.{symbolsMost};
 ghost use Rattle.layout.specs.Layout.{numbersSize, firstsFrom, rulesFrom, gridFrom, rowsBefore};
-ghost use Rattle.layout.specs.Leaves.{headOf};
+ghost use Rattle.frames.specs.Staged.{headOf};
 ghost use Rattle.table.specs.Storing.{headNumbers, Put, Rules, Passed, entriesFrom, Filled};
 
 // Where in the numbers the states' first rules stand, the rules, and what is kept for each state and

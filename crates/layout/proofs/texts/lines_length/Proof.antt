@@ -10,7 +10,7 @@ use Rattle.machine.proofs.Find.{index-row}
 use Rattle.text.specs.Writing.{rowLines}
 use Rattle.layout.specs.Layout.{headFrames}
 use Rattle.layout.proofs.Fit.{length-row-lines}
-use Rattle.layout.proofs.Whole.{frames-between}
+use Rattle.layout.proofs.RuleBytes.{frames-between}
 use borrow.Author.Needs.{needs}
 use Rattle.layout.proofs.texts.lines_length.Statement.{statement}
 use Rattle.layout.proofs.texts.lines_length.Tie as tie

@@ -1,7 +1,7 @@
 -- `rule_text` meets its contract: the bytes from the rule's spot on, as many as it has.
 use native.Mathlib.Omega.{arith}
 use lib.ListN.{length-take}
-use Rattle.layout.proofs.Whole.{text-ends, text-whole}
+use Rattle.layout.proofs.RuleBytes.{text-ends, text-whole}
 use borrow.Author.Needs.{needs}
 use Rattle.layout.proofs.texts.rule_text.Statement.{statement}
 use Rattle.layout.proofs.texts.rule_text.Tie as tie

@@ -1,6 +1,6 @@
 -- `text_length` meets its contract: what is kept of the rule tells its children and its letters.
 use native.Mathlib.Omega.{arith}
-use Rattle.layout.proofs.Whole.{length-rule}
+use Rattle.layout.proofs.RuleBytes.{length-rule}
 use borrow.Author.Needs.{needs}
 use Rattle.layout.proofs.texts.text_length.Statement.{statement}
 use Rattle.layout.proofs.texts.text_length.Tie as tie
