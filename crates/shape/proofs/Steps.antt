@@ -73,7 +73,7 @@ first-ends n ar S (suc k) p after s i h g =
 
 -- An answer that is a refusal is told by its number and place.
 told : {A : Type 0} (o : Reply (Read A)) (n p : ℕ) → o ≡ refused n p → Shaped o (Refused (record { number = n; place = p }))
-told o n p e = subst⁻¹ (λ (x : Reply (Read _)). Shaped x (Refused (record { number = n; place = p }))) e (refl, refl)
+told o n p e = subst⁻¹ (λ (x : Reply (Read _)). Shaped x (Refused (record { number = n; place = p }))) e refl
 
 -- What is asked of an answer about the tree at `at`: it is right for the arities of every table that the lent bytes mean, and it ends within the bytes.
 abbrev pub Right : (n symbols at : ℕ) (F S : List ℕ) → Shape → Type 0

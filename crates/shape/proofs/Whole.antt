@@ -6,7 +6,7 @@ use native.Mathlib.Nat.{zero-add}
 use native.Mathlib.Omega.{arith}
 use borrow.Author.Tests.{lt-ltb, le-ltb, eq-eqb, ne-eqb}
 use lib.ListN.{length, drop, length-drop}
-use Rattle.words.specs.Reply.{Reply, given, refusal, refused, _then_}
+use Rattle.words.specs.Reply.{noAt, Reply, given, refusal, refused, _then_}
 use Rattle.machine.specs.Machine.{Tree}
 use Rattle.trees.specs.Preorder.{preorder}
 use Rattle.trees.specs.Shape.{Read, treeAt, alone, readTree, depthMost, treeMost}
@@ -33,7 +33,7 @@ module _ (S : List ℕ) (r : Read Tree) (next : ℕ) (ends : next ≡ r .place) 
   behind-alone : next < length S → Checked (alone r) (Refused (record { number = 11; place = next }))
   behind-alone h =
       let i : length (r .left) ≡ 0 → ⊥ = λ e. omega (arith, simp length-drop at (ap length left)) in
-      rw (ne-eqb (length (r .left)) 0 i) (refl, ends)
+      rw (ne-eqb (length (r .left)) 0 i) (ap (λ (k : ℕ). noAt 11 k) ends)
 
   -- With no bytes behind it the tree is the whole.
   whole-alone : length S ≤ next → r .place ≡ length (preorder (r .value)) → Checked (alone r) (Ends next)
@@ -45,12 +45,12 @@ module _ (ar S : List ℕ) where
   -- No bytes.
   pub too-few : length S ≡ 0 → Checked (readTree ar S) (Refused (record { number = 6; place = 0 }))
   unfolding readTree
-  too-few h = rw (eq-eqb (length S) 0 h) (refl, refl)
+  too-few h = rw (eq-eqb (length S) 0 h) refl
 
   -- Bytes, but too many.
   pub too-many : (length S ≡ 0 → ⊥) → treeMost < length S → Checked (readTree ar S) (Refused (record { number = 6; place = 0 }))
   unfolding readTree
-  too-many h l = rw (ne-eqb (length S) 0 h, lt-ltb treeMost (length S) l) (refl, refl)
+  too-many h l = rw (ne-eqb (length S) 0 h, lt-ltb treeMost (length S) l) refl
 
   module _ (some : length S ≡ 0 → ⊥) (most : length S ≤ treeMost) where
     -- Neither none nor too many: the tree at place 0, and what stands behind it.
