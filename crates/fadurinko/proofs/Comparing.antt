@@ -111,6 +111,10 @@ pub record Both (first second F I G J : List ℕ) (i j : Judgement) : Type 0 whe
   pub two : Judges second G J j
   pub early2 : j ≡ judgement.Earliest
 
+pub both : {first second F I G J : List ℕ} {i j : Judgement} → Judges first F I i → i ≡ judgement.Earliest → Judges second G J j → j ≡ judgement.Earliest
+    → Both first second F I G J i j
+both one early two early2 = record { one = one; early = early; two = two; early2 = early2 }
+
 module _ {first second F I G J : List ℕ} {i j : Judgement} (b : Both first second F I G J i j) where
   -- Their tables.
   pub a-table : EarliestIn first F I

@@ -12,21 +12,25 @@ use Rattle.words.specs.Told.{Told}
 use Rattle.fadurinko.specs.Parts.{Front, SameAt, AlikeFor}
 
 -- The first i bytes are the same.
-abbrev pub Passed : List ℕ → List ℕ → ℕ → Type 0
-Passed X Y i = (j : ℕ) → j < i → SameAt X Y j
+pub record Passed (X Y : List ℕ) (i : ℕ) : Type 0 where
+  pub same : (j : ℕ) → j < i → SameAt X Y j
+
+-- Before the first byte.
+pub passed-none : (X Y : List ℕ) → Passed X Y 0
+passed-none X Y = record { same = λ j l. absurd (omega arith) }
 
 module _ {X Y : List ℕ} {i : ℕ} (p : Passed X Y i) {a b : ℕ} (ea : a ≡ getD X i 0) (eb : b ≡ getD Y i 0) where
   -- One more byte that is the same.
   pub passed-more : a ≡ b → Passed X Y (i + 1)
-  passed-more e = below-more (λ (j : ℕ). SameAt X Y j) i p (sym ea ∙ e ∙ eb)
+  passed-more e = record { same = below-more (λ (j : ℕ). SameAt X Y j) i (p .same) (sym ea ∙ e ∙ eb) }
 
   -- A byte that differs.
   pub passed-stop : (n : ℕ) → (a ≡ b → ⊥) → i < n → AlikeFor X Y n i
-  passed-stop n d h = record { most = omega arith; same = p; apart = λ l e. d (ea ∙ e ∙ sym eb) }
+  passed-stop n d h = record { most = omega arith; same = p .same; apart = λ l e. d (ea ∙ e ∙ sym eb) }
 
 -- No more bytes.
 pub passed-end : {X Y : List ℕ} {i : ℕ} (n : ℕ) → Passed X Y i → i ≤ n → n ≤ i → AlikeFor X Y n i
-passed-end n p h k = record { most = h; same = p; apart = λ l e. omega arith }
+passed-end n p h k = record { most = h; same = p .same; apart = λ l e. omega arith }
 
 -- A front's bytes are the bytes.
 front-at : {X : List ℕ} {n : ℕ} {x : List ℕ} (f : Front X n x) (i : ℕ) → i < n → getD X i 0 ≡ getD x i 0
