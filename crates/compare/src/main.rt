@@ -20,11 +20,11 @@ fn answer(first: &[u8], second: &[u8]) {
 // Reads the two files and answers.
 fn compare_files(usage: &[u8]) {
     // One byte more than a text may have, so that a longer one is seen to be too long.
-    let mut first = [0u8; 32769];
+    let mut first = [0u8; layout::TEXT + 1];
     let Input::Bytes(n) = desk::read_file(1, usage, &mut first) else {
         return;
     };
-    let mut second = [0u8; 32769];
+    let mut second = [0u8; layout::TEXT + 1];
     let Input::Bytes(m) = desk::read_file(2, usage, &mut second) else {
         return;
     };

@@ -3,20 +3,20 @@ use desk::Input;
 use former::Formed;
 
 fn answer(text: &[u8]) {
-    let mut room = [0u8; 32768];
+    let mut room = [0u8; layout::TEXT];
     match fadurinko::form(text, &mut room) {
-        Formed::Form { length, symbols: _ } => {
+        Formed::Form(length) => {
             output::print(output::front(&room, length));
         }
-        Formed::Refused(refusal) => {
-            desk::print_no(&[refusal.number as u64, refusal.place as u64]);
+        Formed::Refused(no) => {
+            desk::print_no(&[no.number as u64, no.place as u64]);
         }
     }
 }
 
 fn main() {
     // One byte more than a text may have, so that a longer one is seen to be too long.
-    let mut text = [0u8; 32769];
+    let mut text = [0u8; layout::TEXT + 1];
     let Input::Bytes(n) = desk::read_text(
         b"usage: form [FILE]: a table text, from FILE or standard input; answers its form's text or no NUMBER PLACE\n",
         &mut text,

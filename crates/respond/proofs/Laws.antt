@@ -9,18 +9,16 @@ use borrow.Author.Tests.{lt-ltb, ltb-true, ltb-false}
 use lib.Dec.{eqb, ltb}
 use lib.ListN.{length, take, drop, length-take}
 use lib.Seq.{take-append-seam, take-all}
+use Rattle.words.specs.declared.No.{No}
 use Rattle.words.specs.Word.{Word, terms}
-use Rattle.words.specs.Reply.{Reply, given, refused, _then_, refuse-if}
-use Rattle.words.proofs.Replies.{given-injective, given-refused, refused-injective}
+use Rattle.words.specs.Reply.{Reply, given, refusal, refused, _then_, refuse-if}
+use Rattle.words.proofs.Replies.{given-injective, given-refused, refusal-injective}
 use Rattle.words.specs.Told.{Told}
 use Rattle.machine.specs.Machine.{Table}
 use Rattle.text.specs.Lines.{bytesOf}
 use Rattle.trees.specs.Shape.{treeMost, depthMost, treeAt, alone, readTree}
 use Rattle.promises.specs.Word.{wordIn, wordOn, wordInto}
 use Rattle.layout.specs.Layout.{Opened}
-use Rattle.layout.specs.Leaves.{headOf}
-use Rattle.layout.specs.declared.Head.{Head}
-use Rattle.layout.specs.declared.Refusal.{Refusal}
 use Rattle.finder.specs.Answer.{said, Answers}
 use Rattle.finder.specs.declared.WordAnswer.{WordAnswer}
 use Rattle.finder.specs.declared.WordAnswer.the-variants as found
@@ -45,15 +43,14 @@ word-responds (given w) R R′ O O′ v f l u k i h d q =
     let t : l .terms ≡ terms w = ap (λ x. x .terms) g in
     let s : v ≡ w = d ∙ ap (λ (j : ℕ). take j R′) e ∙ ap (take (length w)) (h .room) ∙ take-append-seam w (drop (length w) R) in
     record { line = subst (λ (x : List ℕ). Queued x O u O′ k) (ap (wordLine (l .terms)) s ∙ ap (λ (j : ℕ). wordLine j w) t) q; counted = refl }
-word-responds (refused n p) R R′ O O′ v f l u k i h d q = absurd (given-refused _ n p (sym (ap said i) ∙ h .answer))
+word-responds (refusal x) R R′ O O′ v f l u k i h d q = absurd (given-refused _ (x .number) (x .place) (sym (ap said i) ∙ h .answer))
 
 -- A refusal of the word call.
-pub refusal-responds : (a : Reply Word) (R R′ O O′ : List ℕ) (f : WordAnswer) (e : Refusal) (u : ℕ) (r : Said) → f ≡ found.Refused e → Answers a R R′ f
-    → Responds (refused (e .number) (e .place)) O u O′ r → Responds a O u O′ r
+pub refusal-responds : (a : Reply Word) (R R′ O O′ : List ℕ) (f : WordAnswer) (e : No) (u : ℕ) (r : Said) → f ≡ found.Refused e → Answers a R R′ f
+    → Responds (refusal e) O u O′ r → Responds a O u O′ r
 refusal-responds (given w) R R′ O O′ f e u r i h q = absurd (given-refused _ (e .number) (e .place) (sym (h .answer) ∙ ap said i))
-refusal-responds (refused n p) R R′ O O′ f e u r i h q =
-    let d = refused-injective _ _ _ _ (sym (h .answer) ∙ ap said i) in
-    subst (λ (x : ℕ). Responds (refused x p) O u O′ r) (d .0) (subst (λ (x : ℕ). Responds (refused (e .number) x) O u O′ r) (d .1) q)
+refusal-responds (refusal x) R R′ O O′ f e u r i h q =
+    subst (λ (y : No). Responds (refusal y) O u O′ r) (refusal-injective _ _ (sym (ap said i) ∙ h .answer)) q
 
 -- Bytes that are no line of hexadecimal.
 pub strange-answered : (cs T O O′ : List ℕ) (t : Reply Table) (l : SoFar) (b : Bool) (room u k : ℕ) → Held cs T l → Told (Whole cs T (l .bytes)) b → b ≡ false
@@ -87,22 +84,21 @@ kept-word M bs T n room k h = go (ltb (length T) (length bs)) refl
         ap (λ (xs : List ℕ). wordInto M xs room) (k .front ∙ take-all n bs few)
 
 -- A line of hexadecimal under an opened table.
-pub table-answered : (cs T F I O O′ v : List ℕ) (t : Reply Table) (o : Opening) (head : Head) (b : Bool) (m room u : ℕ) (r : Said) → o ≡ opening.Table head
+pub table-answered : (cs T F I O O′ v : List ℕ) (t : Reply Table) (o : Opening) (b : Bool) (m room u : ℕ) (r : Said) → o ≡ opening.Table
     → Opens F I t o → Told (Whole cs T m) b → b ≡ true → treeMost < length T → v ≡ take m T
-    → ((M : Table) → Opened F I M → head ≡ headOf M → Responds (wordInto M v room) O u O′ r) → Answered t (bytesOf cs) room O u O′ r
-table-answered cs T F I O O′ v t o head b m room u r i s told e h d f = go t (subst (Opens F I t) i s) (told .if-true e)
+    → ((M : Table) → Opened F I M → Responds (wordInto M v room) O u O′ r) → Answered t (bytesOf cs) room O u O′ r
+table-answered cs T F I O O′ v t o b m room u r i s told e h d f = go t (subst (Opens F I t) i s) (told .if-true e)
   where
-    go : (t : Reply Table) → Opens F I t (opening.Table head) → Whole cs T m → Answered t (bytesOf cs) room O u O′ r
+    go : (t : Reply Table) → Opens F I t opening.Table → Whole cs T m → Answered t (bytesOf cs) room O u O′ r
     go (given M) p w =
-        rw (w .1) (subst (λ (a : Reply Word). Responds a O u O′ r) (ap (λ (x : List ℕ). wordInto M x room) d ∙ kept-word M (w .0) T m room (w .2) h) (f M (p .1) (p .0)))
-    go (refused n p) w x = absurd w
+        rw (w .1) (subst (λ (a : Reply Word). Responds a O u O′ r) (ap (λ (x : List ℕ). wordInto M x room) d ∙ kept-word M (w .0) T m room (w .2) h) (f M p))
+    go (refusal x) p w = absurd p
 
 -- A line of hexadecimal under a table that was refused.
-pub refused-answered : (cs T F I O O′ : List ℕ) (t : Reply Table) (o : Opening) (e : Refusal) (b : Bool) (m room u : ℕ) (r : Said) → o ≡ opening.Refused e
-    → Opens F I t o → Told (Whole cs T m) b → b ≡ true → Responds (refused (e .number) (e .place)) O u O′ r → Answered t (bytesOf cs) room O u O′ r
+pub refused-answered : (cs T F I O O′ : List ℕ) (t : Reply Table) (o : Opening) (e : No) (b : Bool) (m room u : ℕ) (r : Said) → o ≡ opening.Refused e
+    → Opens F I t o → Told (Whole cs T m) b → b ≡ true → Responds (refusal e) O u O′ r → Answered t (bytesOf cs) room O u O′ r
 refused-answered cs T F I O O′ t o e b m room u r i s told y q = go t (subst (Opens F I t) i s) (told .if-true y)
   where
     go : (t : Reply Table) → Opens F I t (opening.Refused e) → Whole cs T m → Answered t (bytesOf cs) room O u O′ r
     go (given M) p w = absurd p
-    go (refused n p) d w =
-        rw (w .1) (subst (λ (x : ℕ). Responds (refused x p) O u O′ r) (d .0) (subst (λ (x : ℕ). Responds (refused (e .number) x) O u O′ r) (d .1) q))
+    go (refusal x) d w = rw (w .1) (subst (λ (y : No). Responds (refusal y) O u O′ r) d q)

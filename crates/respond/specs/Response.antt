@@ -4,7 +4,7 @@ use mathlib.Core.List.{List, [], _∷_}
 use mathlib.Core.Option.{Option, none, some}
 use Prim.Native.Nat.{ℕ}
 use Rattle.words.specs.Word.{Word, terms}
-use Rattle.words.specs.Reply.{Reply, given, refused, _then_}
+use Rattle.words.specs.Reply.{Reply, given, refusal, _then_}
 use Rattle.machine.specs.Machine.{Table}
 use Rattle.text.specs.Lines.{bytesOf}
 use Rattle.promises.specs.Word.{wordInto}
@@ -15,12 +15,12 @@ use Rattle.respond.specs.declared.Said.{Said}
 -- The line of an answer of the word call.
 abbrev pub answerLine : Reply Word → List ℕ
 answerLine (given w) = wordLine (terms w) w
-answerLine (refused n p) = noLine (n ∷ p ∷ [])
+answerLine (refusal x) = noLine (x .number ∷ x .place ∷ [])
 
 -- Where that answer is counted.
 abbrev pub countedAt : Reply Word → ℕ
 countedAt (given w) = 0
-countedAt (refused n p) = n
+countedAt (refusal x) = x .number
 
 -- The answer a was put as a line, and is counted in its place.
 pub record Responds (a : Reply Word) (O : List ℕ) (used : ℕ) (O′ : List ℕ) (r : Said) : Type 0 where

@@ -4,23 +4,20 @@ mod piece;
 
 use finder::WordAnswer;
 use hexline::SoFar;
-use layout::Head;
-use layout::Refusal;
 pub use piece::Rest;
 pub use piece::answer;
 pub use piece::take;
 use table::Opening;
-ghost use mathlib.Core.Path.{_≡_};
+use words::No;
 ghost use mathlib.Core.List.{List};
 ghost use Prim.Native.Nat.{ℕ, _<_};
 ghost use lib.ListN.{length};
-ghost use Rattle.words.specs.Reply.{Reply, refused as Reply·refused};
+ghost use Rattle.words.specs.Reply.{Reply, refusal as Reply·refusal};
 ghost use Rattle.machine.specs.Machine.{Table};
 ghost use Rattle.text.specs.Lines.{bytesOf};
 ghost use Rattle.trees.specs.Shape.{treeMost};
 ghost use Rattle.promises.specs.Word.{wordInto};
 ghost use Rattle.layout.specs.Layout.{Opened};
-ghost use Rattle.layout.specs.Leaves.{headOf};
 ghost use Rattle.table.specs.Opening.{Opens};
 ghost use Rattle.hexline.specs.SoFar.{Held};
 ghost use Rattle.respond.specs.Response.{Responds, Answered};
@@ -36,36 +33,35 @@ pub struct Said {
 }
 
 // A refusal: its number and place.
-fn refused(refusal: Refusal, out: &mut [u8], used: usize) -> Said
-    ensures { λ r. ⌜ Responds (Reply·refused (refusal .number) (refusal .place)) (now (out .entry)) used (now (out .exit)) r ⌝ }
+fn refused(no: No, out: &mut [u8], used: usize) -> Said
+    ensures { λ r. ⌜ Responds (Reply·refusal no) (now (out .entry)) used (now (out .exit)) r ⌝ }
 {
-    let numbers = [refusal.number as u64, refusal.place as u64];
+    let numbers = [no.number as u64, no.place as u64];
     let used = answers::put_no(&numbers, out, used);
-    let counted = layout::wide(refusal.number);
+    let counted = layout::wide(no.number);
     Said { used, counted }
 }
 
 // The answer to a tree by an opened table.
 fn to_tree(
-    head: Head,
-    frames: &[u8; 16448],
-    index: &[u64; 4096],
+    frames: &[u8; layout::FRAMES],
+    numbers: &[u64; layout::NUMBERS],
     tree: &[u8],
-    plan: &mut [u32; 32768],
+    plan: &mut [u32; layout::TREE],
     room: &mut [u8],
     out: &mut [u8],
     used: usize,
 ) -> Said
-    ensures { λ r. ⌜ ((M : Table) → Opened (now (frames .entry)) (now (index .entry)) M → head ≡ headOf M
+    ensures { λ r. ⌜ ((M : Table) → Opened (now (frames .entry)) (now (numbers .entry)) M
         → Responds (wordInto M (now (tree .entry)) (length (now (room .entry)))) (now (out .entry)) used (now (out .exit)) r) ⌝ }
 {
-    match swift::find(frames, index, head, tree, plan, room) {
+    match swift::find(frames, numbers, tree, plan, room) {
         WordAnswer::Found(found) => {
             let letters = output::front(room, found.length);
             let used = answers::put_word(found.terms, letters, out, used);
             Said { used, counted: 0 }
         }
-        WordAnswer::Refused(refusal) => refused(refusal, out, used),
+        WordAnswer::Refused(no) => refused(no, out, used),
     }
 }
 
@@ -73,16 +69,16 @@ fn to_tree(
 pub fn to_line(
     line: SoFar,
     opening: Opening,
-    frames: &[u8; 16448],
-    index: &[u64; 4096],
+    frames: &[u8; layout::FRAMES],
+    numbers: &[u64; layout::NUMBERS],
     bytes: &[u8],
-    plan: &mut [u32; 32768],
+    plan: &mut [u32; layout::TREE],
     room: &mut [u8],
     out: &mut [u8],
     used: usize,
 ) -> Said
     ensures { λ r. ⌜ ((cs : List ℕ) (t : Reply Table) → Held cs (now (bytes .entry)) line → treeMost < length (now (bytes .entry))
-        → Opens (now (frames .entry)) (now (index .entry)) t opening
+        → Opens (now (frames .entry)) (now (numbers .entry)) t opening
         → Answered t (bytesOf cs) (length (now (room .entry))) (now (out .entry)) used (now (out .exit)) r) ⌝ }
 {
     if !hexline::is_hex(line) {
@@ -93,10 +89,10 @@ pub fn to_line(
         };
     }
     match opening {
-        Opening::Table(head) => {
+        Opening::Table => {
             let tree = output::front(bytes, line.bytes);
-            to_tree(head, frames, index, tree, plan, room, out, used)
+            to_tree(frames, numbers, tree, plan, room, out, used)
         }
-        Opening::Refused(refusal) => refused(refusal, out, used),
+        Opening::Refused(no) => refused(no, out, used),
     }
 }

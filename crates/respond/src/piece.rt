@@ -25,20 +25,20 @@ pub struct Rest {
 pub fn answer(
     line: SoFar,
     opening: Opening,
-    frames: &[u8; 16448],
-    index: &[u64; 4096],
+    frames: &[u8; layout::FRAMES],
+    numbers: &[u64; layout::NUMBERS],
     tree: &[u8],
-    plan: &mut [u32; 32768],
+    plan: &mut [u32; layout::TREE],
     room: &mut [u8],
     out: &mut [u8],
     counts: &mut [u64],
     used: usize,
 ) -> usize
     ensures { λ r. ⌜ ((cs : List ℕ) (t : Reply Table) → Held cs (now (tree .entry)) line → treeMost < length (now (tree .entry))
-        → Opens (now (frames .entry)) (now (index .entry)) t opening
+        → Opens (now (frames .entry)) (now (numbers .entry)) t opening
         → Queued (lineAnswer t (length (now (room .entry))) cs) (now (out .entry)) used (now (out .exit)) r) ⌝ }
 {
-    let said = to_line(line, opening, frames, index, tree, plan, room, out, used);
+    let said = to_line(line, opening, frames, numbers, tree, plan, room, out, used);
     answers::raise(counts, said.counted);
     said.used
 }
@@ -48,16 +48,16 @@ pub fn take(
     line: SoFar,
     piece: &[u8],
     opening: Opening,
-    frames: &[u8; 16448],
-    index: &[u64; 4096],
+    frames: &[u8; layout::FRAMES],
+    numbers: &[u64; layout::NUMBERS],
     tree: &mut [u8],
-    plan: &mut [u32; 32768],
+    plan: &mut [u32; layout::TREE],
     room: &mut [u8],
     out: &mut [u8],
     counts: &mut [u64],
 ) -> Rest
     ensures { λ r. ⌜ ((cs : List ℕ) (t : Reply Table) → NoFeed cs → Held cs (now (tree .entry)) line → treeMost < length (now (tree .entry))
-        → Opens (now (frames .entry)) (now (index .entry)) t opening
+        → Opens (now (frames .entry)) (now (numbers .entry)) t opening
         → Left t (length (now (room .entry))) (linesOf (cs ++ now (piece .entry))) (now (out .entry)) 0 (now (out .exit)) (r .used) (now (tree .exit)) (r .line)) ⌝ }
 {
     let mut line = line;
@@ -73,7 +73,7 @@ pub fn take(
                 line,
                 opening,
                 frames,
-                index,
+                numbers,
                 tree,
                 plan,
                 room,

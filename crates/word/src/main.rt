@@ -8,16 +8,16 @@ use desk::Input;
 
 // Answers the input under the table of a text.
 fn answer_under(text: &[u8]) {
-    let mut frames = [0u8; 16448];
-    let mut index = [0u64; 4096];
-    let opening = table::open(text, &mut frames, &mut index);
-    stream::answer_all(opening, &frames, &index);
+    let mut frames = [0u8; layout::FRAMES];
+    let mut numbers = [0u64; layout::NUMBERS];
+    let opening = table::open(text, &mut frames, &mut numbers);
+    stream::answer_all(opening, &frames, &numbers);
 }
 
 // Reads the table text and answers.
 fn answer_file(usage: &[u8]) {
     // One byte more than a text may have, so that a longer one is seen to be too long.
-    let mut text = [0u8; 32769];
+    let mut text = [0u8; layout::TEXT + 1];
     let Input::Bytes(n) = desk::read_file(1, usage, &mut text) else {
         return;
     };

@@ -32,10 +32,10 @@ fn take_and_write(
     watch: Watch,
     piece: &[u8],
     opening: Opening,
-    frames: &[u8; 16448],
-    index: &[u64; 4096],
+    frames: &[u8; layout::FRAMES],
+    numbers: &[u64; layout::NUMBERS],
     tree: &mut [u8],
-    plan: &mut [u32; 32768],
+    plan: &mut [u32; layout::TREE],
     room: &mut [u8],
     out: &mut [u8],
     counts: &mut [u64],
@@ -45,7 +45,7 @@ fn take_and_write(
         piece,
         opening,
         frames,
-        index,
+        numbers,
         tree,
         plan,
         room,
@@ -68,10 +68,10 @@ fn take_and_write(
 fn read_some(
     state: State,
     opening: Opening,
-    frames: &[u8; 16448],
-    index: &[u64; 4096],
+    frames: &[u8; layout::FRAMES],
+    numbers: &[u64; layout::NUMBERS],
     tree: &mut [u8],
-    plan: &mut [u32; 32768],
+    plan: &mut [u32; layout::TREE],
     room: &mut [u8],
     piece: &mut [u8],
     out: &mut [u8],
@@ -93,7 +93,7 @@ fn read_some(
         got,
         opening,
         frames,
-        index,
+        numbers,
         tree,
         plan,
         room,
@@ -106,10 +106,10 @@ fn read_some(
 // counts its turns down, from a number that no run uses up.
 fn read_all(
     opening: Opening,
-    frames: &[u8; 16448],
-    index: &[u64; 4096],
+    frames: &[u8; layout::FRAMES],
+    numbers: &[u64; layout::NUMBERS],
     tree: &mut [u8],
-    plan: &mut [u32; 32768],
+    plan: &mut [u32; layout::TREE],
     room: &mut [u8],
     piece: &mut [u8],
     out: &mut [u8],
@@ -128,7 +128,7 @@ fn read_all(
             state,
             opening,
             frames,
-            index,
+            numbers,
             tree,
             plan,
             room,
@@ -145,10 +145,10 @@ fn read_all(
 fn answer_last(
     line: SoFar,
     opening: Opening,
-    frames: &[u8; 16448],
-    index: &[u64; 4096],
+    frames: &[u8; layout::FRAMES],
+    numbers: &[u64; layout::NUMBERS],
     tree: &[u8],
-    plan: &mut [u32; 32768],
+    plan: &mut [u32; layout::TREE],
     room: &mut [u8],
     out: &mut [u8],
     counts: &mut [u64],
@@ -160,7 +160,7 @@ fn answer_last(
         line,
         opening,
         frames,
-        index,
+        numbers,
         tree,
         plan,
         room,
@@ -174,18 +174,38 @@ fn answer_last(
 // Answers each line of the input, and says at a terminal what became of them.
 fn answer_lines(
     opening: Opening,
-    frames: &[u8; 16448],
-    index: &[u64; 4096],
+    frames: &[u8; layout::FRAMES],
+    numbers: &[u64; layout::NUMBERS],
     tree: &mut [u8],
-    plan: &mut [u32; 32768],
+    plan: &mut [u32; layout::TREE],
     room: &mut [u8],
     piece: &mut [u8],
     out: &mut [u8],
     counts: &mut [u64],
 ) {
-    let last = read_all(opening, frames, index, tree, plan, room, piece, out, counts);
+    let last = read_all(
+        opening,
+        frames,
+        numbers,
+        tree,
+        plan,
+        room,
+        piece,
+        out,
+        counts,
+    );
     let line = last.line;
-    answer_last(line, opening, frames, index, tree, plan, room, out, counts);
+    answer_last(
+        line,
+        opening,
+        frames,
+        numbers,
+        tree,
+        plan,
+        room,
+        out,
+        counts,
+    );
     report::end(last.watch, counts);
 }
 
@@ -198,9 +218,13 @@ fn long_room() -> [u8; 2097184]
 }
 
 // Makes the arrays that the answers need, once, and answers the input.
-pub fn answer_all(opening: Opening, frames: &[u8; 16448], index: &[u64; 4096]) {
-    let mut tree = [0u8; 32769];
-    let mut plan = [0u32; 32768];
+pub fn answer_all(
+    opening: Opening,
+    frames: &[u8; layout::FRAMES],
+    numbers: &[u64; layout::NUMBERS],
+) {
+    let mut tree = [0u8; layout::TREE + 1];
+    let mut plan = [0u32; layout::TREE];
     let mut room = long_room();
     let mut piece = io::large_buffer();
     let mut out = io::large_buffer();
@@ -208,7 +232,7 @@ pub fn answer_all(opening: Opening, frames: &[u8; 16448], index: &[u64; 4096]) {
     answer_lines(
         opening,
         frames,
-        index,
+        numbers,
         &mut tree,
         &mut plan,
         &mut room,

@@ -1,5 +1,5 @@
-use borrow.Author.Tests.{not-true, not-false}
 -- `to_line` meets its contract: each answer in its turn.
+use borrow.Author.Tests.{not-true, not-false}
 use Rattle.respond.proofs.Laws.{strange-answered, table-answered, refused-answered}
 use borrow.Author.Needs.{needs}
 use Rattle.respond.proofs.to_line.Statement.{statement}
@@ -15,17 +15,17 @@ returns-2 : tie.Need-returns-2
 returns-2 c =
     let c4 = c .before .before .before .before in
     let c8 = c4 .before .before .before .before in
-    let c10 = c8 .before .before in
-    let c12 = c10 .before .before in
-    let c13 = c12 .before in
-    λ cs t h m o. table-answered cs _ _ _ _ _ _ t _ _ _ _ _ _ _ (c10 .opening .given .1) o (c13 .is-hex .ensures cs _ h) (not-false _ (c12 .if1 .left)) m (c8 .front .ensures) (c4 .to-tree .ensures)
+    let c9 = c8 .before in
+    let c11 = c9 .before .before in
+    let c12 = c11 .before in
+    λ cs t h m o. table-answered cs _ _ _ _ _ _ t _ _ _ _ _ _ (c9 .enum-told .given .1) o (c12 .is-hex .ensures cs _ h) (not-false _ (c11 .if1 .left)) m (c8 .front .ensures) (c4 .to-tree .ensures)
 
 returns-3 : tie.Need-returns-3
 returns-3 c =
     let c5 = c .before .before .before .before .before in
     let c7 = c5 .before .before in
     let c8 = c7 .before in
-    λ cs t h m o. refused-answered cs _ _ _ _ _ t _ _ _ _ _ _ _ (c5 .opening2 .given .1) o (c8 .is-hex .ensures cs _ h) (not-false _ (c7 .if1 .left)) (c .before .before .refused .ensures)
+    λ cs t h m o. refused-answered cs _ _ _ _ _ t _ _ _ _ _ _ _ (c5 .opening .given .1) o (c8 .is-hex .ensures cs _ h) (not-false _ (c7 .if1 .left)) (c .before .before .refused .ensures)
 
 pub to-line-spec : {M : Type 1} → statement M
 to-line-spec =

@@ -9,13 +9,13 @@ returns c =
     let c4 = c .before .before .before .before in
     let c7 = c4 .before .before .before in
     let c11 = c7 .before .before .before .before in
-    λ M o e. word-responds _ _ _ _ _ _ _ _ _ _ (c7 .found .given .1) (c11 .find .ensures M o e) (c4 .front .ensures) (c .before .before .put-word .ensures)
+    λ M o. word-responds _ _ _ _ _ _ _ _ _ _ (c7 .found .given .1) (c11 .find .ensures M o) (c4 .front .ensures) (c .before .before .put-word .ensures)
 
 returns-2 : tie.Need-returns-2
 returns-2 c =
     let c5 = c .before .before .before .before .before in
     let c9 = c5 .before .before .before .before in
-    λ M o e. refusal-responds _ _ _ _ _ _ _ _ _ (c5 .refusal .given .1) (c9 .find .ensures M o e) (c .before .before .refused .ensures)
+    λ M o. refusal-responds _ _ _ _ _ _ _ _ _ (c5 .no .given .1) (c9 .find .ensures M o) (c .before .before .refused .ensures)
 
 pub to-tree-spec : {M : Type 1} → statement M
 to-tree-spec =

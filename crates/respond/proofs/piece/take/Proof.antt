@@ -10,14 +10,14 @@ use Rattle.respond.proofs.piece.take.Statement.{statement}
 use Rattle.respond.proofs.piece.take.Tie as tie
 
 abbrev Inv-loop : tie.InvT-loop
-Inv-loop piece opening frames index tree₀ plan₀ room₀ out₀ counts₀ line₀ used₀ at₀ tree plan room out counts line used at =
-    Going frames index tree₀ line₀ opening (length room₀) piece out₀ at used out tree line
+Inv-loop piece opening frames numbers tree₀ plan₀ room₀ out₀ counts₀ line₀ used₀ at₀ tree plan room out counts line used at =
+    Going frames numbers tree₀ line₀ opening (length room₀) piece out₀ at used out tree line
     × (length room ≡ length room₀)
     × (length out ≡ length out₀)
     × (length counts ≡ length counts₀)
 
 abbrev μ-loop : tie.MeasureT-loop
-μ-loop piece opening frames index tree₀ plan₀ room₀ out₀ counts₀ line₀ used₀ at₀ tree plan room out counts line used at =
+μ-loop piece opening frames numbers tree₀ plan₀ room₀ out₀ counts₀ line₀ used₀ at₀ tree plan room out counts line used at =
     length piece - at
 
 loop-holds : tie.Need-loop-holds Inv-loop μ-loop

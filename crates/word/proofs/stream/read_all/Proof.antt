@@ -6,11 +6,11 @@ use Rattle.word.proofs.stream.read_all.Statement.{statement}
 use Rattle.word.proofs.stream.read_all.Tie as tie
 
 abbrev Inv-loop : tie.InvT-loop
-Inv-loop opening frames index tree₀ plan₀ room₀ piece₀ out₀ counts₀ state₀ turns₀ tree plan room piece out counts state turns =
+Inv-loop opening frames numbers tree₀ plan₀ room₀ piece₀ out₀ counts₀ state₀ turns₀ tree plan room piece out counts state turns =
     (length tree ≡ length tree₀) × (length room ≡ length room₀) × (length piece ≡ length piece₀) × (length out ≡ length out₀) × (length counts ≡ length counts₀)
 
 abbrev μ-loop : tie.MeasureT-loop
-μ-loop opening frames index tree₀ plan₀ room₀ piece₀ out₀ counts₀ state₀ turns₀ tree plan room piece out counts state turns =
+μ-loop opening frames numbers tree₀ plan₀ room₀ piece₀ out₀ counts₀ state₀ turns₀ tree plan room piece out counts state turns =
     turns
 
 start-requires : tie.Need-start-requires Inv-loop μ-loop
