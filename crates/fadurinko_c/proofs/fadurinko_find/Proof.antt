@@ -1,42 +1,26 @@
--- `fadurinko_find` meets its contract: the head is taken up again, and what the word call answers is handed out. Assumes nothing.
-use Rattle.fadurinko_c.proofs.Handing.{word-linked, head-again}
 use borrow.Author.Needs.{needs}
 use Rattle.fadurinko_c.proofs.fadurinko_find.Statement.{statement}
 use Rattle.fadurinko_c.proofs.fadurinko_find.Tie as tie
+use Rattle.fadurinko_c.proofs.fadurinko_find.Reads as reads
+use Rattle.fadurinko_c.proofs.fadurinko_find.Lts as lts
+use Rattle.fadurinko_c.proofs.tell_word.Reads as tell-word-reads
+use Rattle.swift.proofs.find.Reads as find-reads
 
-head-of-requires : tie.Need-head-of-requires
-head-of-requires c κs = search needs
-
+-- src/lib.rt:149:9
 find-requires : tie.Need-find-requires
 find-requires c κs = search needs
 
-count-of-requires : tie.Need-count-of-requires
-count-of-requires c κs = search needs
+-- src/lib.rt:150:5
+tell-word-requires : tie.Need-tell-word-requires
+tell-word-requires c κs = search needs
 
-terms-of-requires : tie.Need-terms-of-requires
-terms-of-requires c κs = search needs
-
-number-of-requires : tie.Need-number-of-requires
-number-of-requires c κs = search needs
-
+-- src/lib.rt:137:1
 same-length : tie.Need-same-length
 same-length c = search needs
 
+-- src/lib.rt:137:1
 returns : tie.Need-returns
-returns c =
-    let answer = c .before .before .before .before .before .find in
-    let head = c .before .before .before .before .before .before .before .before .head-of in
-    λ M o numbers.
-    word-linked (answer .ensures M o (head-again M o (head .ensures) numbers)) (c .number-of .ensures) (c .before .before .count-of .ensures) (c .before .terms-of .ensures)
+returns c = ?
 
 pub fadurinko-find-spec : {M : Type 1} → statement M
-fadurinko-find-spec =
-    tie.close
-    (tie.spec
-    head-of-requires
-    find-requires
-    count-of-requires
-    terms-of-requires
-    number-of-requires
-    same-length
-    returns)
+fadurinko-find-spec = tie.close (tie.spec find-requires tell-word-requires same-length returns)

@@ -1,39 +1,23 @@
--- `fadurinko_judge_opened` meets its contract: the head is taken up again, and the verdict's number and place are handed out. Assumes nothing.
-use Rattle.verdict.specs.Judgement.{verdictOf}
-use Rattle.fadurinko_c.proofs.Handing.{head-again}
 use borrow.Author.Needs.{needs}
 use Rattle.fadurinko_c.proofs.fadurinko_judge_opened.Statement.{statement}
 use Rattle.fadurinko_c.proofs.fadurinko_judge_opened.Tie as tie
+use Rattle.fadurinko_c.proofs.fadurinko_judge_opened.Reads as reads
+use Rattle.fadurinko_c.proofs.fadurinko_judge_opened.Lts as lts
+use Rattle.fadurinko_c.proofs.tell_judgement.Reads as tell-judgement-reads
+use Rattle.verdict.proofs.judge_opened.Reads as judge-opened-reads
 
-head-of-requires : tie.Need-head-of-requires
-head-of-requires c κs = search needs
-
+-- src/lib.rt:163:9
 judge-opened-requires : tie.Need-judge-opened-requires
 judge-opened-requires c κs = search needs
 
-enum-told : tie.Need-enum-told
-enum-told c = search needs
+-- src/lib.rt:164:5
+tell-judgement-requires : tie.Need-tell-judgement-requires
+tell-judgement-requires c κs = search needs
 
-enum-known-judged : tie.Need-enum-known-judged
-enum-known-judged c = search needs
-
+-- src/lib.rt:154:1
 returns : tie.Need-returns
-returns c =
-    let answer = c .before .before .judge-opened in
-    let head = c .before .before .before .before .before .head-of in
-    let e = c .enum-told .given .1 in
-    λ M o numbers.
-    record { verdict = verdictOf (answer .result); answer = answer .ensures M o (head-again M o (head .ensures) numbers); told = rw e; place = rw e }
-
-returns-2 : tie.Need-returns-2
-returns-2 c =
-    let answer = c .before .before .before .judge-opened in
-    let head = c .before .before .before .before .before .before .head-of in
-    let e = c .before .judged .given .1 in
-    λ M o numbers.
-    record { verdict = verdictOf (answer .result); answer = answer .ensures M o (head-again M o (head .ensures) numbers); told = rw e; place = rw e }
+returns c = ?
 
 pub fadurinko-judge-opened-spec : {M : Type 1} → statement M
 fadurinko-judge-opened-spec =
-    tie.close
-    (tie.spec head-of-requires judge-opened-requires enum-told enum-known-judged returns returns-2)
+    tie.close (tie.spec judge-opened-requires tell-judgement-requires returns)
