@@ -141,11 +141,7 @@ pub extern "C" fn fadurinko_judge(text: &[u8], answer: &mut [usize; ANSWER]) -> 
 
 // The form of a table text: its length, and the room begins with it.
 #[no_mangle]
-pub extern "C" fn fadurinko_form(
-    text: &[u8],
-    room: &mut [u8],
-    answer: &mut [usize; ANSWER],
-) -> u8
+pub extern "C" fn fadurinko_form(text: &[u8], room: &mut [u8], answer: &mut [usize; ANSWER]) -> u8
     ensures { λ r. ⌜ FormLinked (now (text .entry)) (now (room .entry)) (now (room .exit)) r (now (answer .exit)) ⌝ }
 {
     let formed = fadurinko::form(text, room);
@@ -154,11 +150,7 @@ pub extern "C" fn fadurinko_form(
 
 // Compares two table texts: same or different, or a no with the table that it is about.
 #[no_mangle]
-pub extern "C" fn fadurinko_compare(
-    first: &[u8],
-    second: &[u8],
-    answer: &mut [usize; ANSWER],
-) -> u8
+pub extern "C" fn fadurinko_compare(first: &[u8], second: &[u8], answer: &mut [usize; ANSWER]) -> u8
     ensures { λ r. ⌜ ComparedLinked (now (first .entry)) (now (second .entry)) r (now (answer .exit)) ⌝ }
 {
     let compared = fadurinko::compare(first, second);

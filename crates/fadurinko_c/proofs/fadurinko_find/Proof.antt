@@ -1,26 +1,11 @@
+-- `fadurinko_find` meets its contract: what the word call on an opened table answers is told. Assumes nothing.
+use Rattle.fadurinko_c.proofs.Handing.{word-linked}
 use borrow.Author.Needs.{needs}
 use Rattle.fadurinko_c.proofs.fadurinko_find.Statement.{statement}
 use Rattle.fadurinko_c.proofs.fadurinko_find.Tie as tie
-use Rattle.fadurinko_c.proofs.fadurinko_find.Reads as reads
-use Rattle.fadurinko_c.proofs.fadurinko_find.Lts as lts
-use Rattle.fadurinko_c.proofs.tell_word.Reads as tell-word-reads
-use Rattle.swift.proofs.find.Reads as find-reads
 
--- src/lib.rt:149:9
-find-requires : tie.Need-find-requires
-find-requires c κs = search needs
-
--- src/lib.rt:150:5
-tell-word-requires : tie.Need-tell-word-requires
-tell-word-requires c κs = search needs
-
--- src/lib.rt:137:1
-same-length : tie.Need-same-length
-same-length c = search needs
-
--- src/lib.rt:137:1
 returns : tie.Need-returns
-returns c = ?
+returns c = λ M o. word-linked (c .before .before .before .before .find .ensures M o) (c .tell-word .ensures .0) (c .tell-word .ensures .1)
 
 pub fadurinko-find-spec : {M : Type 1} → statement M
-fadurinko-find-spec = tie.close (tie.spec find-requires tell-word-requires same-length returns)
+fadurinko-find-spec = tie.close (tie.spec (λ c κs. search needs) (λ c κs. search needs) (λ c. search needs) returns)
