@@ -9,9 +9,10 @@ use native.Mathlib.Omega.{arith}
 use lib.Dec.{ltb}
 use lib.ListN.{length}
 use Rattle.words.specs.Word.{Word}
-use Rattle.words.specs.Reply.{Reply, given, refused, _then_, refuse-if}
+use Rattle.words.specs.declared.No.{No}
+use Rattle.words.specs.Reply.{Reply, given, refusal, _then_, refuse-if}
 use Rattle.machine.specs.Machine.{Table, output}
-use Rattle.machine.specs.Verdict.{Condition, conditions, Verdict, earliest, late, JudgedBy, Judged}
+use Rattle.machine.specs.Verdict.{Condition, conditions, Verdict, earliest, lateAs, JudgedBy, Judged}
 use Rattle.text.specs.Reading.{readTable}
 use Rattle.text.proofs.Refusals as text
 use Rattle.trees.specs.Shape.{readTree}
@@ -30,16 +31,16 @@ use Rattle.fadurinko_c.specs.Linked.{WordLinked, FormLinked, JudgedLinke
 -- An answer's number, if it is a no, is not 0.
 abbrev Numbered : {A : Type 0} → Reply A → Type 0
 Numbered (given a) = Unit {0}
-Numbered (refused n p) = 1 ≤ n
+Numbered (refusal x) = 1 ≤ x .number
 
 -- What is told of each refusal holds of an answer.
-numbered : {A : Type 0} (a : Reply A) → ((n p : ℕ) → a ≡ refused n p → 1 ≤ n) → Numbered a
+numbered : {A : Type 0} (a : Reply A) → ((x : No) → a ≡ refusal x → 1 ≤ x .number) → Numbered a
 numbered (given a) h = tt
-numbered (refused n p) h = h n p refl
+numbered (refusal x) h = h x refl
 
 then-numbered : {A B : Type 0} (a : Reply A) (k : A → Reply B) → Numbered a → ((x : A) → Numbered (k x)) → Numbered (a then k)
 then-numbered (given x) k h f = f x
-then-numbered (refused n p) k h f = h
+then-numbered (refusal x) k h f = h
 
 if-numbered : {A : Type 0} (b : Bool) (n p : ℕ) (a : Reply A) → 1 ≤ n → Numbered a → Numbered (refuse-if b n p a)
 if-numbered true n p a h i = h
@@ -47,10 +48,10 @@ if-numbered false n p a h i = i
 
 -- A text, tree bytes, a word and a room have such answers.
 text-numbered : (t : List ℕ) → Numbered (readTable t)
-text-numbered t = numbered (readTable t) (λ n p e. text.read-refused t n p e .0)
+text-numbered t = numbered (readTable t) (λ x e. text.read-refused t (x .number) (x .place) e .0)
 
 tree-numbered : (ar bs : List ℕ) → Numbered (readTree ar bs)
-tree-numbered ar bs = numbered (readTree ar bs) (λ n p e. omega (arith, trees.cause-number (trees.read-refused ar bs n p .0 e) .0))
+tree-numbered ar bs = numbered (readTree ar bs) (λ x e. omega (arith, trees.cause-number (trees.read-refused ar bs (x .number) (x .place) .0 e) .0))
 
 or-numbered : (w : Option Word) (p : Option ℕ) → Numbered (wordOr w p)
 or-numbered (some w) p = tt
@@ -78,25 +79,26 @@ abbrev AllNumbered : List Condition → Type 0
 AllNumbered [] = Unit {0}
 AllNumbered (c ∷ cs) = (1 ≤ c .number) × AllNumbered cs
 
-by-numbered : (cs : List Condition) (n p : ℕ) → AllNumbered cs → JudgedBy cs (late n p) → 1 ≤ n
-by-numbered [] n p h j =
+by-numbered : (cs : List Condition) (x : No) → AllNumbered cs → JudgedBy cs (lateAs x) → 1 ≤ x .number
+by-numbered [] x h j =
     let z : _≡_ {A = ℕ} 0 1 = cc in
     absurd (omega arith)
-by-numbered (c ∷ cs) n p h (inl a) =
-    let e : n ≡ c .number = cc (a .2) in
+by-numbered (c ∷ cs) x h (inl a) =
+    let e : x .number ≡ c .number = cc (a .2) in
     omega (arith, h .0)
-by-numbered (c ∷ cs) n p h (inr a) = by-numbered cs n p (h .1) (a .1)
+by-numbered (c ∷ cs) x h (inr a) = by-numbered cs x (h .1) (a .1)
 
-judged-numbered : (M : Table) (n p : ℕ) → Judged M (late n p) → 1 ≤ n
-judged-numbered M n p h = by-numbered (conditions M) n p (omega arith, (omega arith, (omega arith, (omega arith, (omega arith, (omega arith, tt)))))) h
+judged-numbered : (M : Table) (x : No) → Judged M (lateAs x) → 1 ≤ x .number
+judged-numbered M x h = by-numbered (conditions M) x (omega arith, (omega arith, (omega arith, (omega arith, (omega arith, (omega arith, tt)))))) h
 
-judgement-numbered : (text : List ℕ) (n p : ℕ) → JudgementAnswer text (late n p) → 1 ≤ n
-judgement-numbered text n p h = go (readTable text) (text-numbered text) h
+judgement-numbered : (text : List ℕ) (x : No) → JudgementAnswer text (lateAs x) → 1 ≤ x .number
+judgement-numbered text x h = go (readTable text) (text-numbered text) h
   where
-    go : (a : Reply Table) → Numbered a → JudgedReading a (late n p) → 1 ≤ n
-    go (given M) k h = judged-numbered M n p h
-    go (refused m q) k h =
-        let e : n ≡ m = cc in
+    go : (a : Reply Table) → Numbered a → JudgedReading a (lateAs x) → 1 ≤ x .number
+    go (given M) k h = judged-numbered M x h
+    go (refusal y) k h =
+        let e : x ≡ y = cc in
+        let n : x .number ≡ y .number = cc in
         omega arith
 
 -- So have the form call's answer and the comparison's.
@@ -105,51 +107,51 @@ form-numbered text room a h = subst (λ (x : Reply (List ℕ)). Numbered x) (sym
   where
     go : (b : Reply (List ℕ)) → FormText text b → Numbered b
     go (given out) k = tt
-    go (refused n p) k = judgement-numbered text n p k
+    go (refusal x) k = judgement-numbered text x k
 
-comparison-numbered : (one two : List ℕ) (t n p : ℕ) → ComparisonAnswer one two (paper.refused t n p) → 1 ≤ n
-comparison-numbered one two zero n p h = omega (arith, h .3)
-comparison-numbered one two (suc zero) n p h = judgement-numbered one n p h
-comparison-numbered one two (suc (suc zero)) n p h = judgement-numbered two n p (h .1)
-comparison-numbered one two (suc (suc (suc t))) n p h = absurd h
+comparison-numbered : (one two : List ℕ) (t : ℕ) (x : No) → ComparisonAnswer one two (paper.refusal t x) → 1 ≤ x .number
+comparison-numbered one two zero x h = omega (arith, h .3)
+comparison-numbered one two (suc zero) x h = judgement-numbered one x h
+comparison-numbered one two (suc (suc zero)) x h = judgement-numbered two x (h .1)
+comparison-numbered one two (suc (suc (suc t))) x h = absurd h
 
 -- ---- 0 is a yes
 
 -- An answer whose number is 0 is a yes.
 yes-of : {A : Type 0} (a : Reply A) → Numbered a → 0 ≡ numberOf a → (x : A) × (a ≡ given x)
 yes-of (given x) h e = (x, refl)
-yes-of (refused n p) h e = absurd (omega arith)
+yes-of (refusal x) h e = absurd (omega arith)
 
 -- A verdict whose number is 0 is earliest.
-earliest-of : (Right : Verdict → Type 0) (v : Verdict) → ((n p : ℕ) → Right (late n p) → 1 ≤ n) → Right v → 0 ≡ verdictNumber v → Right earliest
+earliest-of : (Right : Verdict → Type 0) (v : Verdict) → ((x : No) → Right (lateAs x) → 1 ≤ x .number) → Right v → 0 ≡ verdictNumber v → Right earliest
 earliest-of Right earliest h a e = a
-earliest-of Right (late n p) h a e = absurd (omega (arith, h n p a))
+earliest-of Right (lateAs x) h a e = absurd (omega (arith, h x a))
 
 -- The linked calls tell 0 for a yes only.
-pub word-zero : {i j : ℕ} (text tree R R′ : List ℕ) → WordLinked (wordAnswer text tree (length R)) R R′ 0 i j → (w : Word) × (wordAnswer text tree (length R) ≡ given w)
+pub word-zero : {E : List ℕ} (text tree R R′ : List ℕ) → WordLinked (wordAnswer text tree (length R)) R R′ 0 E → (w : Word) × (wordAnswer text tree (length R) ≡ given w)
 word-zero text tree R R′ h = yes-of (wordAnswer text tree (length R)) (word-numbered text tree (length R)) (h .told)
 
-pub find-zero : {i j : ℕ} (M : Table) (tree R R′ : List ℕ) → WordLinked (wordInto M tree (length R)) R R′ 0 i j → (w : Word) × (wordInto M tree (length R) ≡ given w)
+pub find-zero : {E : List ℕ} (M : Table) (tree R R′ : List ℕ) → WordLinked (wordInto M tree (length R)) R R′ 0 E → (w : Word) × (wordInto M tree (length R) ≡ given w)
 find-zero M tree R R′ h = yes-of (wordInto M tree (length R)) (find-numbered M tree (length R)) (h .told)
 
-pub judge-zero : {p : ℕ} (text : List ℕ) → JudgedLinked (λ v. JudgementAnswer text v) 0 p → JudgementAnswer text earliest
+pub judge-zero : {E : List ℕ} (text : List ℕ) → JudgedLinked (λ v. JudgementAnswer text v) 0 E → JudgementAnswer text earliest
 judge-zero text h = earliest-of (λ v. JudgementAnswer text v) (h .verdict) (judgement-numbered text) (h .answer) (h .told)
 
-pub judge-opened-zero : {p : ℕ} (M : Table) → JudgedLinked (λ v. Judged M v) 0 p → Judged M earliest
+pub judge-opened-zero : {E : List ℕ} (M : Table) → JudgedLinked (λ v. Judged M v) 0 E → Judged M earliest
 judge-opened-zero M h = earliest-of (λ v. Judged M v) (h .verdict) (judged-numbered M) (h .answer) (h .told)
 
-pub form-zero : {i : ℕ} (text R R′ : List ℕ) → FormLinked text R R′ 0 i → (out : List ℕ) × FormAnswer text (length R) (given out)
+pub form-zero : {E : List ℕ} (text R R′ : List ℕ) → FormLinked text R R′ 0 E → (out : List ℕ) × FormAnswer text (length R) (given out)
 form-zero text R R′ h =
     let y = yes-of (h .reply) (form-numbered text (length R) (h .reply) (h .answer)) (h .told) in
     (y .0, subst (λ (a : Reply (List ℕ)). FormAnswer text (length R) a) (y .1) (h .answer))
 
-pub compare-zero : {s t p : ℕ} (one two : List ℕ) → ComparedLinked one two 0 s t p → ComparisonAnswer one two paper.same ⊎ ComparisonAnswer one two paper.different
+pub compare-zero : {E : List ℕ} (one two : List ℕ) → ComparedLinked one two 0 E → ComparisonAnswer one two paper.same ⊎ ComparisonAnswer one two paper.different
 compare-zero one two h = go (h .comparison) (h .answer) (h .told)
   where
     go : (c : Comparison) → ComparisonAnswer one two c → 0 ≡ comparisonNumber c → ComparisonAnswer one two paper.same ⊎ ComparisonAnswer one two paper.different
     go paper.same a e = inl a
     go paper.different a e = inr a
-    go (paper.refused t n p) a e = absurd (omega (arith, comparison-numbered one two t n p a))
+    go (paper.refusal t x) a e = absurd (omega (arith, comparison-numbered one two t x a))
 
-pub open-zero : {p : ℕ} (text F I H F′ I′ H′ : List ℕ) → OpenLinked (readTable text) F I H F′ I′ H′ 0 p → (M : Table) × (readTable text ≡ given M)
-open-zero text F I H F′ I′ H′ h = yes-of (readTable text) (text-numbered text) (h .told)
+pub open-zero : {E : List ℕ} (text F I F′ I′ : List ℕ) → OpenLinked (readTable text) F I F′ I′ 0 E → (M : Table) × (readTable text ≡ given M)
+open-zero text F I F′ I′ h = yes-of (readTable text) (text-numbered text) (h .told)

@@ -1,127 +1,121 @@
--- What a linked call hands out for each answer of the paper: its number is returned, 0 for a yes, and the rest goes through references. Definitions only.
+-- What a linked call hands out for each answer of the paper: its number is returned, 0 for a yes, and the rest is one array of eight entries. Definitions only.
 use mathlib.Core.Path.{_≡_}
-use mathlib.Core.Bool.{true, false}
 use mathlib.Core.List.{List, [], _∷_}
 use Prim.Native.Nat.{ℕ}
-use lib.Dec.{ltb}
-use lib.ListN.{length, getD}
+use lib.ListN.{length}
+use Rattle.words.specs.declared.No.{No}
 use Rattle.words.specs.Word.{Word, terms}
-use Rattle.words.specs.Reply.{Reply, given, refused}
+use Rattle.words.specs.Reply.{Reply, given, refusal}
 use Rattle.machine.specs.Machine.{Table}
-use Rattle.machine.specs.Verdict.{Verdict, earliest, late}
+use Rattle.machine.specs.Verdict.{Verdict, earliest, lateAs}
 use Rattle.promises.specs.Room.{filled}
+use Rattle.promises.specs.Word.{Letters, lettersOf}
 use Rattle.promises.specs.Form.{FormAnswer, formRoom}
 use Rattle.promises.specs.Comparison as paper
 use Rattle.promises.specs.Comparison.{Comparison, ComparisonAnswer}
-use Rattle.layout.specs.Layout.{framesOf, Opened}
-use Rattle.layout.specs.Leaves.{headOf}
-use Rattle.layout.specs.declared.Head.{Head}
-use Rattle.table.specs.Opening.{BlankFrom}
+use Rattle.layout.specs.Layout.{Opened}
+use Rattle.table.specs.Opening.{Unchanged}
+use Rattle.table.specs.declared.Opening.{Opening}
+use Rattle.table.specs.declared.Opening.the-variants as opening
+
+-- The entries of an answer: a no's place, a length, a number of terms, 1 for same, the table that a no is about; three are kept for later calls.
+abbrev pub eight : ℕ → ℕ → ℕ → ℕ → ℕ → List ℕ
+eight place length terms same table = place ∷ length ∷ terms ∷ same ∷ table ∷ 0 ∷ 0 ∷ 0 ∷ []
+
+-- The entries of a yes that holds nothing, and of a no about table t, which is 0 but in comparisons.
+abbrev pub blank : List ℕ
+blank = eight 0 0 0 0 0
+
+abbrev pub noEntries : ℕ → No → List ℕ
+noEntries t x = eight (x .place) 0 0 0 t
 
 -- The number of an answer: 0 for a yes.
 abbrev pub numberOf : {A : Type 0} → Reply A → ℕ
 numberOf (given a) = 0
-numberOf (refused n p) = n
+numberOf (refusal x) = x .number
 
--- The first count of an answer: what is counted of a yes, the place of a no.
-abbrev pub firstOf : {A : Type 0} → (A → ℕ) → Reply A → ℕ
-firstOf count (given a) = count a
-firstOf count (refused n p) = p
+-- The entries of an answer, by those of a yes.
+abbrev pub entriesOf : {A : Type 0} → (A → List ℕ) → Reply A → List ℕ
+entriesOf entries (given a) = entries a
+entriesOf entries (refusal x) = noEntries 0 x
 
--- A further count of an answer: what is counted of a yes, 0 for a no.
-abbrev pub furtherOf : {A : Type 0} → (A → ℕ) → Reply A → ℕ
-furtherOf count (given a) = count a
-furtherOf count (refused n p) = 0
+-- The entries of a word's letters, and of so many bytes of a form.
+abbrev pub lettersEntries : Letters → List ℕ
+lettersEntries l = eight 0 (l .length) (l .terms) 0 0
 
--- The word call with answer a: number, length or place, terms, and the room after it.
-pub record WordLinked (a : Reply Word) (R R′ : List ℕ) (number first further : ℕ) : Type 0 where
+abbrev pub lengthEntries : ℕ → List ℕ
+lengthEntries n = eight 0 n 0 0 0
+
+-- The entries of a word's answer, of a form's, and of a reading.
+abbrev pub wordEntries : Reply Word → List ℕ
+wordEntries a = entriesOf (λ w. lettersEntries (lettersOf w)) a
+
+abbrev pub formEntries : Reply (List ℕ) → List ℕ
+formEntries a = entriesOf (λ out. lengthEntries (length out)) a
+
+abbrev pub openEntries : Reply Table → List ℕ
+openEntries a = entriesOf (λ M. blank) a
+
+-- The word call with answer a: number, entries, and the room after it.
+pub record WordLinked (a : Reply Word) (R R′ : List ℕ) (number : ℕ) (entries : List ℕ) : Type 0 where
   pub told : number ≡ numberOf a
-  pub count : first ≡ firstOf length a
-  pub terms : further ≡ furtherOf terms a
+  pub all : entries ≡ wordEntries a
   pub room : R′ ≡ filled R a
 
--- The form call: number, length or place, and the room after it are those of an answer of the definition.
-pub record FormLinked (text R R′ : List ℕ) (number first : ℕ) : Type 0 where
+-- The form call: number, entries, and the room after it are those of an answer of the definition.
+pub record FormLinked (text R R′ : List ℕ) (number : ℕ) (entries : List ℕ) : Type 0 where
   pub reply : Reply (List ℕ)
   pub answer : FormAnswer text (length R) reply
   pub told : number ≡ numberOf reply
-  pub count : first ≡ firstOf length reply
+  pub all : entries ≡ formEntries reply
   pub room : R′ ≡ formRoom R reply
 
--- The number and the place of a verdict: 0 for earliest.
+-- The number and the entries of a verdict: 0 for earliest.
 abbrev pub verdictNumber : Verdict → ℕ
 verdictNumber earliest = 0
-verdictNumber (late n p) = n
+verdictNumber (lateAs x) = x .number
 
-abbrev pub verdictPlace : Verdict → ℕ
-verdictPlace earliest = 0
-verdictPlace (late n p) = p
+abbrev pub verdictEntries : Verdict → List ℕ
+verdictEntries earliest = blank
+verdictEntries (lateAs x) = noEntries 0 x
 
--- The judgement call: number and place are those of a verdict that is right, by what is asked of it.
-pub record JudgedLinked (Right : Verdict → Type 0) (number first : ℕ) : Type 0 where
+-- The judgement call: number and entries are those of a verdict that is right, by what is asked of it.
+pub record JudgedLinked (Right : Verdict → Type 0) (number : ℕ) (entries : List ℕ) : Type 0 where
   pub verdict : Verdict
   pub answer : Right verdict
   pub told : number ≡ verdictNumber verdict
-  pub place : first ≡ verdictPlace verdict
+  pub all : entries ≡ verdictEntries verdict
 
--- What a comparison's answer hands out: its number, 1 for same and 0 otherwise, the table that a no is about, its place.
+-- The number and the entries of a comparison's answer: 0 for same and for different, which the entries tell apart.
 abbrev pub comparisonNumber : Comparison → ℕ
 comparisonNumber paper.same = 0
 comparisonNumber paper.different = 0
-comparisonNumber (paper.refused t n p) = n
+comparisonNumber (paper.refusal t x) = x .number
 
-abbrev pub comparisonSame : Comparison → ℕ
-comparisonSame paper.same = 1
-comparisonSame paper.different = 0
-comparisonSame (paper.refused t n p) = 0
+abbrev pub comparisonEntries : Comparison → List ℕ
+comparisonEntries paper.same = eight 0 0 0 1 0
+comparisonEntries paper.different = blank
+comparisonEntries (paper.refusal t x) = noEntries t x
 
-abbrev pub comparisonTable : Comparison → ℕ
-comparisonTable paper.same = 0
-comparisonTable paper.different = 0
-comparisonTable (paper.refused t n p) = t
-
-abbrev pub comparisonPlace : Comparison → ℕ
-comparisonPlace paper.same = 0
-comparisonPlace paper.different = 0
-comparisonPlace (paper.refused t n p) = p
-
--- The comparison call: all four numbers are those of an answer of the definition.
-pub record ComparedLinked (one two : List ℕ) (number alike about at : ℕ) : Type 0 where
+-- The comparison call: number and entries are those of an answer of the definition.
+pub record ComparedLinked (one two : List ℕ) (number : ℕ) (entries : List ℕ) : Type 0 where
   pub comparison : Comparison
   pub answer : ComparisonAnswer one two comparison
   pub told : number ≡ comparisonNumber comparison
-  pub same : alike ≡ comparisonSame comparison
-  pub table : about ≡ comparisonTable comparison
-  pub place : at ≡ comparisonPlace comparison
+  pub all : entries ≡ comparisonEntries comparison
 
--- The seven numbers of an opened table as they lie in the array that the caller lends.
-abbrev pub numbersOf : Head → List ℕ
-numbersOf h = h .symbols ∷ h .states ∷ h .start ∷ h .before ∷ h .after ∷ h .rows ∷ h .rules ∷ []
+-- What was lent, F and I, becomes the opened table, and what it does not use of them stays as it was; for a no all of them stay.
+abbrev pub Lent : (F I F′ I′ : List ℕ) → Reply Table → Type 0
+Lent F I F′ I′ (given M) = Opened F′ I′ M × Unchanged F I F′ I′ (given M)
+Lent F I F′ I′ (refusal x) = Unchanged F I F′ I′ (refusal x)
 
--- A number of rules, at most 512: no opened table has more.
-abbrev pub fewer : ℕ → ℕ
-fewer n = elim (ltb n 513) [ true ↦ n | false ↦ 512 ]
-
--- The head whose numbers lie there, 0 past the end, with at most 512 rules.
-abbrev pub headFrom : List ℕ → Head
-headFrom N =
-    record {
-      symbols = getD N 0 0;
-      states = getD N 1 0;
-      start = getD N 2 0;
-      before = getD N 3 0;
-      after = getD N 4 0;
-      rows = getD N 5 0;
-      rules = fewer (getD N 6 0);
-    }
-
--- What was lent, F, I and H, becomes the opened table and its numbers, with nothing but 0 behind its frames; for a no it stays as it was.
-abbrev pub Lent : (F I H F′ I′ H′ : List ℕ) → Reply Table → Type 0
-Lent F I H F′ I′ H′ (given M) = (H′ ≡ numbersOf (headOf M)) × Opened F′ I′ M × BlankFrom F′ (length (framesOf M))
-Lent F I H F′ I′ H′ (refused n p) = (F′ ≡ F) × (I′ ≡ I) × (H′ ≡ H)
-
--- The opening call with the reading a: number, place, and all that was lent.
-pub record OpenLinked (a : Reply Table) (F I H F′ I′ H′ : List ℕ) (number first : ℕ) : Type 0 where
+-- The opening call with the reading a: number, entries, and all that was lent.
+pub record OpenLinked (a : Reply Table) (F I F′ I′ : List ℕ) (number : ℕ) (entries : List ℕ) : Type 0 where
   pub told : number ≡ numberOf a
-  pub place : first ≡ firstOf (λ M. 0) a
-  pub lent : Lent F I H F′ I′ H′ a
+  pub all : entries ≡ openEntries a
+  pub lent : Lent F I F′ I′ a
+
+-- The answer of opening, without the table: a yes that holds nothing, or the no.
+abbrev pub replied : Opening → Reply (Unit {0})
+replied opening.Table = given tt
+replied (opening.Refused x) = refusal x

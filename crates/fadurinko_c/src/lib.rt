@@ -1,53 +1,117 @@
 // The public calls as C and Rust link them. The number is returned, 0 for a yes; what else an answer
-// holds goes through the last references: of a no its place, and 0 where only a yes has a count.
+// holds goes into one array, every entry of which each call writes.
 use fadurinko::Compared;
 use finder::WordAnswer;
 use former::Formed;
-use former::Judged;
-use layout::Head;
 use table::Opening;
 use verdict::Judgement;
+use words::No;
 ghost use mathlib.Core.Path.{_≡_};
-ghost use mathlib.Core.List.{List};
-ghost use Prim.Native.Nat.{ℕ};
-ghost use lib.ListN.{length, getD};
+ghost use lib.ListN.{length};
 ghost use Rattle.machine.specs.Machine.{Table};
 ghost use Rattle.machine.specs.Verdict as verdict;
 ghost use Rattle.text.specs.Reading.{readTable};
-ghost use Rattle.promises.specs.Word.{Letters, wordAnswer, wordInto};
+ghost use Rattle.promises.specs.Word.{wordAnswer, wordInto};
 ghost use Rattle.promises.specs.Judgement.{JudgementAnswer};
 ghost use Rattle.layout.specs.Layout.{Opened};
-ghost use Rattle.layout.specs.Leaves.{headOf};
-ghost use Rattle.finder.specs.Answer.{said};
-ghost use Rattle.fadurinko_c.specs.Linked.{numberOf, firstOf, furtherOf, numbersOf, fewer, headFrom, WordLinked, FormLinked, JudgedLinked, ComparedLinked, OpenLinked};
+ghost use Rattle.verdict.specs.Judgement.{verdictOf};
+ghost use Rattle.finder.specs.Answer as word;
+ghost use Rattle.former.specs.Formed as form;
+ghost use Rattle.fadurinko.specs.Answers.{comparisonOf};
+ghost use Rattle.fadurinko_c.specs.Linked.{eight, blank, noEntries, numberOf, entriesOf, lettersEntries, lengthEntries, replied};
+ghost use Rattle.fadurinko_c.specs.Linked.{verdictNumber, verdictEntries, comparisonNumber, comparisonEntries};
+ghost use Rattle.fadurinko_c.specs.Linked.{WordLinked, FormLinked, JudgedLinked, ComparedLinked, OpenLinked};
 
-// The number of the refusal, or 0.
-fn number_of(found: WordAnswer) -> u8
-    ensures { λ r. ⌜ r ≡ numberOf (said found) ⌝ }
+// Entries of an answer.
+pub const ANSWER: usize = 8;
+
+// The entries of an answer: those that none is said for are 0.
+fn entries(place: usize, length: usize, terms: usize, same: usize, table: usize) -> [usize; ANSWER]
+    ensures { λ r. ⌜ r ≡ eight place length terms same table ⌝ }
+{
+    [place, length, terms, same, table, 0, 0, 0]
+}
+
+// Tells a no that is about a table, or 0: its number, and its place.
+fn tell_no(refusal: No, table: usize, answer: &mut [usize; ANSWER]) -> u8
+    ensures { λ r. ⌜ r ≡ refusal .number ⌝ }
+    ensures { λ _. ⌜ now (answer .exit) ≡ noEntries table refusal ⌝ }
+{
+    *answer = entries(refusal.place, 0, 0, 0, table);
+    refusal.number
+}
+
+// Tells a word's length and terms, or the no.
+fn tell_word(found: WordAnswer, answer: &mut [usize; ANSWER]) -> u8
+    ensures { λ r. ⌜ r ≡ numberOf (word.said found) ⌝ }
+    ensures { λ _. ⌜ now (answer .exit) ≡ entriesOf lettersEntries (word.said found) ⌝ }
 {
     match found {
-        WordAnswer::Found(_) => 0,
-        WordAnswer::Refused(refusal) => refusal.number,
+        WordAnswer::Found(letters) => {
+            *answer = entries(0, letters.length, letters.terms, 0, 0);
+            0
+        }
+        WordAnswer::Refused(refusal) => tell_no(refusal, 0, answer),
     }
 }
 
-// The length of the word, or the place of the refusal.
-fn count_of(found: WordAnswer) -> usize
-    ensures { λ r. ⌜ r ≡ firstOf (λ (l : Letters). l .length) (said found) ⌝ }
+// Tells earliest, or the no.
+fn tell_judgement(judgement: Judgement, answer: &mut [usize; ANSWER]) -> u8
+    ensures { λ r. ⌜ r ≡ verdictNumber (verdictOf judgement) ⌝ }
+    ensures { λ _. ⌜ now (answer .exit) ≡ verdictEntries (verdictOf judgement) ⌝ }
 {
-    match found {
-        WordAnswer::Found(letters) => letters.length,
-        WordAnswer::Refused(refusal) => refusal.place,
+    match judgement {
+        Judgement::Earliest => {
+            *answer = entries(0, 0, 0, 0, 0);
+            0
+        }
+        Judgement::Late(refusal) => tell_no(refusal, 0, answer),
     }
 }
 
-// The word's number of terms, or 0.
-fn terms_of(found: WordAnswer) -> usize
-    ensures { λ r. ⌜ r ≡ furtherOf (λ (l : Letters). l .terms) (said found) ⌝ }
+// Tells a form's length, or the no.
+fn tell_form(formed: Formed, answer: &mut [usize; ANSWER]) -> u8
+    ensures { λ r. ⌜ r ≡ numberOf (form.said formed) ⌝ }
+    ensures { λ _. ⌜ now (answer .exit) ≡ entriesOf lengthEntries (form.said formed) ⌝ }
 {
-    match found {
-        WordAnswer::Found(letters) => letters.terms,
-        WordAnswer::Refused(_) => 0,
+    match formed {
+        Formed::Form(length) => {
+            *answer = entries(0, length, 0, 0, 0);
+            0
+        }
+        Formed::Refused(refusal) => tell_no(refusal, 0, answer),
+    }
+}
+
+// Tells same or different, or the no with the table that it is about.
+fn tell_comparison(compared: Compared, answer: &mut [usize; ANSWER]) -> u8
+    ensures { λ r. ⌜ r ≡ comparisonNumber (comparisonOf compared) ⌝ }
+    ensures { λ _. ⌜ now (answer .exit) ≡ comparisonEntries (comparisonOf compared) ⌝ }
+{
+    match compared {
+        Compared::Same => {
+            *answer = entries(0, 0, 0, 1, 0);
+            0
+        }
+        Compared::Different => {
+            *answer = entries(0, 0, 0, 0, 0);
+            0
+        }
+        Compared::Refused { table, refusal } => tell_no(refusal, layout::wide(table), answer),
+    }
+}
+
+// Tells that a text is a table, or the no.
+fn tell_opening(opening: Opening, answer: &mut [usize; ANSWER]) -> u8
+    ensures { λ r. ⌜ r ≡ numberOf (replied opening) ⌝ }
+    ensures { λ _. ⌜ now (answer .exit) ≡ entriesOf (λ _. blank) (replied opening) ⌝ }
+{
+    match opening {
+        Opening::Table => {
+            *answer = entries(0, 0, 0, 0, 0);
+            0
+        }
+        Opening::Refused(refusal) => tell_no(refusal, 0, answer),
     }
 }
 
@@ -57,194 +121,85 @@ pub extern "C" fn fadurinko_word(
     text: &[u8],
     tree: &[u8],
     room: &mut [u8],
-    count: &mut usize,
-    terms: &mut usize,
+    answer: &mut [usize; ANSWER],
 ) -> u8
-    ensures { λ r. ⌜ WordLinked (wordAnswer (now (text .entry)) (now (tree .entry)) (length (now (room .entry)))) (now (room .entry)) (now (room .exit))
-        r (now (count .exit)) (now (terms .exit)) ⌝ }
+    ensures { λ r. ⌜ WordLinked (wordAnswer (now (text .entry)) (now (tree .entry)) (length (now (room .entry))))
+        (now (room .entry)) (now (room .exit)) r (now (answer .exit)) ⌝ }
 {
     let found = fadurinko::word(text, tree, room);
-    *count = count_of(found);
-    *terms = terms_of(found);
-    number_of(found)
+    tell_word(found, answer)
 }
 
 // The judgement of a table text.
 #[no_mangle]
-pub extern "C" fn fadurinko_judge(text: &[u8], place: &mut usize) -> u8
-    ensures { λ r. ⌜ JudgedLinked (λ v. JudgementAnswer (now (text .entry)) v) r (now (place .exit)) ⌝ }
+pub extern "C" fn fadurinko_judge(text: &[u8], answer: &mut [usize; ANSWER]) -> u8
+    ensures { λ r. ⌜ JudgedLinked (λ v. JudgementAnswer (now (text .entry)) v) r (now (answer .exit)) ⌝ }
 {
-    let judged = fadurinko::judge(text);
-    match judged {
-        Judged::Earliest => {
-            *place = 0;
-            0
-        }
-        Judged::Refused(late) => {
-            *place = late.place;
-            late.number
-        }
-    }
+    let judgement = fadurinko::judge(text);
+    tell_judgement(judgement, answer)
 }
 
 // The form of a table text: its length, and the room begins with it.
 #[no_mangle]
-pub extern "C" fn fadurinko_form(text: &[u8], room: &mut [u8], count: &mut usize) -> u8
-    ensures { λ r. ⌜ FormLinked (now (text .entry)) (now (room .entry)) (now (room .exit)) r (now (count .exit)) ⌝ }
+pub extern "C" fn fadurinko_form(text: &[u8], room: &mut [u8], answer: &mut [usize; ANSWER]) -> u8
+    ensures { λ r. ⌜ FormLinked (now (text .entry)) (now (room .entry)) (now (room .exit)) r (now (answer .exit)) ⌝ }
 {
     let formed = fadurinko::form(text, room);
-    match formed {
-        Formed::Form { length, symbols: _ } => {
-            *count = length;
-            0
-        }
-        Formed::Refused(refusal) => {
-            *count = refusal.place;
-            refusal.number
-        }
-    }
+    tell_form(formed, answer)
 }
 
-// Compares two table texts: 1 for same and 0 for different; a refusal's table and place.
+// Compares two table texts: same or different, or a no with the table that it is about.
 #[no_mangle]
-pub extern "C" fn fadurinko_compare(
-    first: &[u8],
-    second: &[u8],
-    same: &mut usize,
-    table: &mut usize,
-    place: &mut usize,
-) -> u8
-    ensures { λ r. ⌜ ComparedLinked (now (first .entry)) (now (second .entry)) r (now (same .exit)) (now (table .exit)) (now (place .exit)) ⌝ }
+pub extern "C" fn fadurinko_compare(first: &[u8], second: &[u8], answer: &mut [usize; ANSWER]) -> u8
+    ensures { λ r. ⌜ ComparedLinked (now (first .entry)) (now (second .entry)) r (now (answer .exit)) ⌝ }
 {
     let compared = fadurinko::compare(first, second);
-    *same = 0;
-    *table = 0;
-    *place = 0;
-    match compared {
-        Compared::Same => {
-            *same = 1;
-            0
-        }
-        Compared::Different => 0,
-        Compared::Refused {
-            table: which,
-            refusal: why,
-        } => {
-            *table = layout::wide(which);
-            *place = why.place;
-            why.number
-        }
-    }
+    tell_comparison(compared, answer)
 }
 
-// Opens a table text into what the caller lends; where it is refused, frames, index and head are as
-// they were.
+// Opens a table text into what the caller lends; where it is refused, frames and numbers are as they
+// were.
 #[no_mangle]
 pub extern "C" fn fadurinko_open(
     text: &[u8],
-    frames: &mut [u8; 16448],
-    index: &mut [u64; 4096],
-    head: &mut [usize; 7],
-    place: &mut usize,
+    frames: &mut [u8; layout::FRAMES],
+    numbers: &mut [u64; layout::NUMBERS],
+    answer: &mut [usize; ANSWER],
 ) -> u8
-    ensures { λ r. ⌜ OpenLinked (readTable (now (text .entry))) (now (frames .entry)) (now (index .entry)) (now (head .entry))
-        (now (frames .exit)) (now (index .exit)) (now (head .exit)) r (now (place .exit)) ⌝ }
+    ensures { λ r. ⌜ OpenLinked (readTable (now (text .entry))) (now (frames .entry)) (now (numbers .entry))
+        (now (frames .exit)) (now (numbers .exit)) r (now (answer .exit)) ⌝ }
 {
-    let opening = table::open(text, frames, index);
-    match opening {
-        Opening::Table(h) => {
-            *head = [
-                h.symbols,
-                h.states,
-                h.start,
-                h.before,
-                h.after,
-                h.rows,
-                h.rules,
-            ];
-            *place = 0;
-            0
-        }
-        Opening::Refused(refusal) => {
-            *place = refusal.place;
-            refusal.number
-        }
-    }
-}
-
-// A number of those lent, 0 past their end.
-fn number_at(numbers: &[usize], i: usize) -> usize
-    ensures { λ r. ⌜ r ≡ getD (now (numbers .entry)) i 0 ⌝ }
-{
-    if i < numbers.len() { numbers[i] } else { 0 }
-}
-
-// A number of rules, at most 512: no opened table has more, and a caller's made-up number must not
-// keep the judgement busy.
-fn few_rules(n: usize) -> usize
-    ensures { λ r. ⌜ r ≡ fewer n ⌝ }
-{
-    if n <= 512 { n } else { 512 }
-}
-
-// An opened table's numbers, taken up again.
-fn head_of(numbers: &[usize]) -> Head
-    ensures { λ r. ⌜ r ≡ headFrom (now (numbers .entry)) ⌝ }
-{
-    Head {
-        symbols: number_at(numbers, 0),
-        states: number_at(numbers, 1),
-        start: number_at(numbers, 2),
-        before: number_at(numbers, 3),
-        after: number_at(numbers, 4),
-        rows: number_at(numbers, 5),
-        rules: few_rules(number_at(numbers, 6)),
-    }
+    let opening = table::open(text, frames, numbers);
+    tell_opening(opening, answer)
 }
 
 // The word of a tree by an opened table. What the plan holds before and after says nothing.
 #[no_mangle]
 pub extern "C" fn fadurinko_find(
-    frames: &[u8; 16448],
-    index: &[u64; 4096],
-    head: &[usize; 7],
+    frames: &[u8; layout::FRAMES],
+    numbers: &[u64; layout::NUMBERS],
     tree: &[u8],
-    plan: &mut [u32; 32768],
+    plan: &mut [u32; layout::TREE],
     room: &mut [u8],
-    count: &mut usize,
-    terms: &mut usize,
+    answer: &mut [usize; ANSWER],
 ) -> u8
-    ensures { λ r. ⌜ ((M : Table) → Opened (now (frames .entry)) (now (index .entry)) M → now (head .entry) ≡ numbersOf (headOf M)
-        → WordLinked (wordInto M (now (tree .entry)) (length (now (room .entry)))) (now (room .entry)) (now (room .exit)) r (now (count .exit)) (now (terms .exit))) ⌝ }
+    ensures { λ r. ⌜ ((M : Table) → Opened (now (frames .entry)) (now (numbers .entry)) M
+        → WordLinked (wordInto M (now (tree .entry)) (length (now (room .entry)))) (now (room .entry)) (now (room .exit)) r (now (answer .exit))) ⌝ }
 {
-    let h = head_of(head);
-    let answer = swift::find(frames, index, h, tree, plan, room);
-    *count = count_of(answer);
-    *terms = terms_of(answer);
-    number_of(answer)
+    let found = swift::find(frames, numbers, tree, plan, room);
+    tell_word(found, answer)
 }
 
 // The judgement of an opened table.
 #[no_mangle]
 pub extern "C" fn fadurinko_judge_opened(
-    frames: &[u8; 16448],
-    index: &[u64; 4096],
-    head: &[usize; 7],
-    place: &mut usize,
+    frames: &[u8; layout::FRAMES],
+    numbers: &[u64; layout::NUMBERS],
+    answer: &mut [usize; ANSWER],
 ) -> u8
-    ensures { λ r. ⌜ ((M : Table) → Opened (now (frames .entry)) (now (index .entry)) M → now (head .entry) ≡ numbersOf (headOf M)
-        → JudgedLinked (λ v. verdict.Judged M v) r (now (place .exit))) ⌝ }
+    ensures { λ r. ⌜ ((M : Table) → Opened (now (frames .entry)) (now (numbers .entry)) M
+        → JudgedLinked (λ v. verdict.Judged M v) r (now (answer .exit))) ⌝ }
 {
-    let h = head_of(head);
-    let judged = verdict::judge_opened(frames, index, h);
-    match judged {
-        Judgement::Earliest => {
-            *place = 0;
-            0
-        }
-        Judgement::Late(fault) => {
-            *place = fault.place;
-            fault.number
-        }
-    }
+    let judgement = verdict::judge_opened(frames, numbers);
+    tell_judgement(judgement, answer)
 }

@@ -37,12 +37,12 @@ pub use rule::symbol_of;
 pub use spot::next_spot;
 pub use spot::state_behind;
 pub use spot::word_at;
-pub use texts::lines_length;
-pub use texts::rule_text;
 pub use stride::letter_at;
 pub use stride::letters_at;
 pub use stride::spot_past;
 pub use stride::state_past;
+pub use texts::lines_length;
+pub use texts::rule_text;
 pub use whole::Laid;
 pub use whole::kept_at;
 pub use whole::laid_at;
@@ -55,8 +55,8 @@ mod kept;
 mod kids;
 mod rule;
 mod spot;
-mod texts;
 mod stride;
+mod texts;
 mod whole;
 
 // How many bytes and how many numbers a caller lends for an opened table. The bytes behind the

@@ -1,7 +1,7 @@
 // Reading a table text: any bytes come to an end with an opened table or one refusal and its place.
+use frames::Head;
 use frames::Next;
 use frames::Stage;
-use frames::Head;
 use lines::Line;
 use words::No;
 ghost use mathlib.Core.Path.{_≡_};

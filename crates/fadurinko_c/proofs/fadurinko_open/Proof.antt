@@ -1,28 +1,13 @@
--- `fadurinko_open` meets its contract: the opened table's numbers are handed out, or the refusal. Assumes nothing.
-use Rattle.fadurinko_c.proofs.Handing.{table-linked, refused-linked}
+-- `fadurinko_open` meets its contract: what opening answers is told, and what it leaves is lent. Assumes nothing.
+use Rattle.fadurinko_c.proofs.Handing.{open-linked}
 use borrow.Author.Needs.{needs}
 use Rattle.fadurinko_c.proofs.fadurinko_open.Statement.{statement}
 use Rattle.fadurinko_c.proofs.fadurinko_open.Tie as tie
 
-open-requires : tie.Need-open-requires
-open-requires c κs = search needs
-
-enum-known-opening : tie.Need-enum-known-opening
-enum-known-opening c = search needs
-
-enum-known-opening-2 : tie.Need-enum-known-opening-2
-enum-known-opening-2 c = search needs
-
 returns : tie.Need-returns
 returns c =
-    let answer = c .before .before .before .before .«open» in
-    table-linked _ (answer .ensures .0) (c .before .before .opening .given .1)
-
-returns-2 : tie.Need-returns-2
-returns-2 c =
-    let answer = c .before .before .before .«open» in
-    refused-linked _ (answer .ensures .0) (answer .ensures .1) (c .before .opening2 .given .1)
+    let opening = c .before .before .«open» in
+    open-linked _ (opening .result) (opening .ensures .0) (opening .ensures .1) (c .tell-opening .ensures .0) (c .tell-opening .ensures .1)
 
 pub fadurinko-open-spec : {M : Type 1} → statement M
-fadurinko-open-spec =
-    tie.close (tie.spec open-requires enum-known-opening enum-known-opening-2 returns returns-2)
+fadurinko-open-spec = tie.close (tie.spec (λ c κs. search needs) (λ c κs. search needs) returns)
