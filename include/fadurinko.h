@@ -60,10 +60,10 @@ extern "C" {
 /* Bytes of stack that a call takes at most. examples/c/stack.c measures each: it takes more than half
  * of its bound. */
 #define FADURINKO_STACK_WORD 204800        /* fadurinko_word, fadurinko_word_of */
-#define FADURINKO_STACK_JUDGE 57344        /* fadurinko_judge, fadurinko_judge_of */
-#define FADURINKO_STACK_FORM 57344         /* fadurinko_form, fadurinko_form_of */
-#define FADURINKO_STACK_COMPARE 122880     /* fadurinko_compare, fadurinko_compare_of */
-#define FADURINKO_STACK_OPEN 57344         /* fadurinko_open, fadurinko_open_table */
+#define FADURINKO_STACK_JUDGE 65536        /* fadurinko_judge, fadurinko_judge_of */
+#define FADURINKO_STACK_FORM 65536         /* fadurinko_form, fadurinko_form_of */
+#define FADURINKO_STACK_COMPARE 188416     /* fadurinko_compare, fadurinko_compare_of */
+#define FADURINKO_STACK_OPEN 28672         /* fadurinko_open, fadurinko_open_table */
 #define FADURINKO_STACK_FIND 16384         /* fadurinko_find, fadurinko_find_in, fadurinko_find_with */
 #define FADURINKO_STACK_JUDGE_OPENED 1536  /* fadurinko_judge_opened, fadurinko_judge_in */
 

@@ -33,13 +33,13 @@ pub const ANSWER: usize = 8;
 /// header gives for the linked calls, as `examples/c/stack.c` measures them.
 pub const STACK_WORD: usize = 204_800;
 /// Bytes of stack that a judgement by a text takes at most.
-pub const STACK_JUDGE: usize = 57_344;
+pub const STACK_JUDGE: usize = 65_536;
 /// Bytes of stack that a form takes at most.
-pub const STACK_FORM: usize = 57_344;
+pub const STACK_FORM: usize = 65_536;
 /// Bytes of stack that a comparison takes at most.
-pub const STACK_COMPARE: usize = 122_880;
+pub const STACK_COMPARE: usize = 188_416;
 /// Bytes of stack that opening a table takes at most.
-pub const STACK_OPEN: usize = 57_344;
+pub const STACK_OPEN: usize = 28_672;
 /// Bytes of stack that a word by an opened table takes at most.
 pub const STACK_FIND: usize = 16_384;
 /// Bytes of stack that the judgement of an opened table takes at most.
