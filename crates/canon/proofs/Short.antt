@@ -14,21 +14,33 @@ use Rattle.normal.proofs.Visit.{same-self}
 use Rattle.normal.proofs.Order.{order-length}
 use Rattle.normal.proofs.Made.{renumbered-all, form-made}
 use Rattle.normal.proofs.Size.{isForm-rows, isForm-total}
-use Rattle.text.specs.Writing.{rowFrame, writeTable, Short, ShortRow, Limited}
-use Rattle.layout.specs.Layout.{rowFrames, headFrames, framesOf}
-use Rattle.layout.proofs.Fit.{length-text}
-use Rattle.layout.proofs.Heads.{length-head}
+use Rattle.text.specs.Lines.{lineOf}
+use Rattle.text.specs.Writing.{rowFrame, initialFrame, symbolLines, rowLines, writeTable, Short, ShortRow, Limited}
+use Rattle.text.proofs.Lines.{length-line}
 use Rattle.canon.proofs.Lengths.{length-row}
 
--- The frames of rows are as long as all of them together.
-rows-total : (rows : List Row) → length (rowFrames rows) ≡ total (λ r. length (rowFrame r)) rows
-unfolding rowFrames
+-- The lines of rows are as long as all of them together.
+rows-total : (rows : List Row) → length (rowLines rows) ≡ total (λ r. length (lineOf (rowFrame r))) rows
+unfolding rowLines
 rows-total [] = refl
-rows-total (r ∷ rs) = length-append (rowFrame r) (rowFrames rs) ∙ ap (λ (n : ℕ). length (rowFrame r) + n) (rows-total rs)
+rows-total (r ∷ rs) = length-append (lineOf (rowFrame r)) (rowLines rs) ∙ ap (λ (n : ℕ). length (lineOf (rowFrame r)) + n) (rows-total rs)
 
--- A row's frame is as long by any number.
-row-any : (r s : Row) → ByNumber r s → length (rowFrame r) ≡ length (rowFrame s)
-row-any r s b = sym (ap (λ (x : Row). length (rowFrame x)) (b .2) ∙ length-row (b .0) (b .1) r)
+-- A row's line is as long by any number.
+row-any : (r s : Row) → ByNumber r s → length (lineOf (rowFrame r)) ≡ length (lineOf (rowFrame s))
+row-any r s b =
+    let e : length (rowFrame s) ≡ length (rowFrame r) = ap (λ (x : Row). length (rowFrame x)) (b .2) ∙ length-row (b .0) (b .1) r in
+    omega (arith, length-line (rowFrame r), length-line (rowFrame s), e)
+
+-- The initial rule's frame has the letters of its words, and five bytes more.
+initial-long : (M : Table) → length (initialFrame M) ≡ length (M .before) + length (M .after) + 5
+unfolding initialFrame
+initial-long M = simp length-append (omega arith)
+
+-- A table's text is as long as its lines.
+text-long : (M : Table) → length (writeTable M)
+    ≡ length (symbolLines (M .arities)) + length (lineOf (initialFrame M)) + length (rowLines (M .rows)) + length (lineOf (4 ∷ []))
+unfolding writeTable
+text-long M = simp length-append refl
 
 module _ (same : Test) (M : Table) (W : WellMade M) (D : Decides same M) where
   -- The form is a form.
@@ -37,23 +49,20 @@ module _ (same : Test) (M : Table) (W : WellMade M) (D : Decides same M) where
 
   -- The form's text is never longer than the table's text.
   pub form-short : length (writeTable (formOf same M)) ≤ length (writeTable M)
-  unfolding framesOf formOf
+  unfolding formOf
   form-short =
       let F : Table = formOf same M in
       omega (
         arith,
-        length-text F,
-        length-text M,
-        length-append (headFrames F ++ rowFrames (F .rows)) (4 ∷ []),
-        length-append (headFrames F) (rowFrames (F .rows)),
-        length-append (headFrames M ++ rowFrames (M .rows)) (4 ∷ []),
-        length-append (headFrames M) (rowFrames (M .rows)),
-        length-head F,
-        length-head M,
+        text-long F,
+        text-long M,
+        length-line (initialFrame F),
+        length-line (initialFrame M),
+        initial-long F,
+        initial-long M,
         rows-total (F .rows),
         rows-total (M .rows),
-        isForm-total M F W is-form (λ r. length (rowFrame r)) row-any,
-        isForm-rows M F W is-form,
+        isForm-total M F W is-form (λ r. length (lineOf (rowFrame r))) row-any,
       )
 
 -- The words of a row are short by any numbers.

@@ -10,6 +10,7 @@ use Rattle.machine.specs.Machine.{Tree, Table, output}
 use Rattle.machine.specs.Ranks.{Ranked}
 use Rattle.text.specs.Reading.{readTable}
 use Rattle.trees.specs.Preorder.{preorder, Levels}
+use Rattle.trees.specs.Shape.{treeMost, depthMost}
 use Rattle.trees.specs.Standing.{FirstLacking}
 use Rattle.trees.specs.Causes.{Cause}
 
@@ -20,8 +21,8 @@ pub record Asked (text tree : List ℕ) (M : Table) (t : Tree) : Type 0 where
   pub bytes : tree ≡ preorder t
   pub ranked : Ranked (M .arities) t
   pub some : 1 ≤ length tree
-  pub most : length tree ≤ 32768
-  pub levels : Levels t 64
+  pub most : length tree ≤ treeMost
+  pub levels : Levels t depthMost
 
 -- The published word of that tree is w, and it has room.
 pub record WordGiven (text tree : List ℕ) (room : ℕ) (w : Word) : Type 0 where

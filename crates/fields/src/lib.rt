@@ -90,7 +90,7 @@ pub fn word(frames: &[u8], at: usize, end: usize) -> Field
     requires { ⌜ (at ≤ end) × (end ≤ length (now frames)) ⌝ }
     ensures { λ r. ⌜ WordRead (now (frames .entry)) at end (text.text (slice at end (now (frames .entry)))) r ⌝ }
 {
-    let got = within(frames, at, end, 0, 32);
+    let got = within(frames, at, end, 0, layout::LETTERS);
     let Field::Got { value, next } = got else {
         return got;
     };

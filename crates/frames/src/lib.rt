@@ -57,10 +57,10 @@ fn symbol_frame(st: Stage, frames: &[u8], at: usize, end: usize) -> Next
 {
     let old = st.head;
     let symbols = old.symbols;
-    if 64 <= symbols {
+    if layout::SYMBOLS <= symbols {
         return Next::Wrong { number: 4 };
     }
-    let arity = fields::within(frames, at, end, 0, 4);
+    let arity = fields::within(frames, at, end, 0, layout::ARITY);
     let Field::Got { value: _, next } = arity else {
         return fault(arity);
     };
@@ -111,7 +111,7 @@ fn start_frame(st: Stage, frames: &[u8], at: usize, end: usize) -> Next
         → Stepped (now (frames .entry)) R (text.whole (text.startFrame arities (slice at end (now (frames .entry))))) r) ⌝ }
 {
     let old = st.head;
-    let count = fields::within(frames, at, end, 1, 64);
+    let count = fields::within(frames, at, end, 1, layout::STATES);
     let Field::Got {
         value: states,
         next: before,
@@ -246,7 +246,7 @@ fn rule_frame(st: Stage, frames: &[u8], rules: &mut [u64], at: usize, end: usize
     let old = st.head;
     let count = old.rules;
     let states = old.states;
-    if 512 <= count {
+    if layout::RULES <= count {
         return Next::Wrong { number: 4 };
     }
     let first = fields::below(frames, at, end, states);
@@ -265,13 +265,13 @@ fn rule_frame(st: Stage, frames: &[u8], rules: &mut [u64], at: usize, end: usize
     else {
         return fault(sym);
     };
-    let key = q * 64 + f;
+    let key = q * layout::SYMBOLS + f;
     if key < st.last {
         return Next::Wrong { number: 3 };
     }
     let arity = layout::wide(layout::byte(frames, 2 * f + 1));
     // Never so at a symbol that was read.
-    if 4 < arity {
+    if layout::ARITY < arity {
         return Next::Wrong { number: 4 };
     }
     let rule = rule_fields(frames, count, from, end, states, arity);

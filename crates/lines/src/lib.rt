@@ -2,6 +2,7 @@
 ghost use mathlib.Core.Path.{_≡_};
 ghost use Prim.Native.Nat.{_+_, _*_, _<_, _≤_};
 ghost use lib.ListN.{length, drop};
+ghost use Rattle.text.specs.Limits.{textMost};
 ghost use Rattle.lines.specs.Scan.{scan, Valued, Closed, Taken};
 
 // A line's number of bytes and where the next line starts; or a line that is no bytes.
@@ -52,7 +53,7 @@ fn ended(text: &[u8], i: usize, n: usize) -> Line
 
 // Decodes the line of text that starts at `at` into frames from `used` on.
 pub fn take_line(text: &[u8], at: usize, frames: &mut [u8], used: usize) -> Line
-    requires { ⌜ (at ≤ length (now text)) × (length (now text) ≤ 32768) ⌝ }
+    requires { ⌜ (at ≤ length (now text)) × (length (now text) ≤ textMost) ⌝ }
     requires { ⌜ (2 * used ≤ at) × (16384 ≤ length (now frames)) ⌝ }
     ensures { λ r. ⌜ Taken (now (text .entry)) (scan (drop at (now (text .entry)))) at used (now (frames .entry)) (now (frames .exit)) r ⌝ }
 {

@@ -4,6 +4,7 @@ use lines::Line;
 ghost use mathlib.Core.Path.{_≡_};
 ghost use Prim.Native.Nat.{_*_, _≤_};
 ghost use lib.ListN.{length, drop};
+ghost use Rattle.text.specs.Limits.{textMost};
 ghost use Rattle.lines.specs.Scan.{scan, Taken};
 ghost use Rattle.reader.specs.Ahead.{ahead};
 
@@ -22,7 +23,7 @@ fn new<'a>(text: &'a [u8], at: usize) -> Reader<'a>
 
 // The line that a reader comes to next, decoded into frames from `used` on.
 fn next<'a, 'b>(r: Reader<'a>, frames: &'b mut [u8], used: usize) -> Line
-    requires { ⌜ (r .at ≤ length (now (r .text))) × (length (now (r .text)) ≤ 32768) ⌝ }
+    requires { ⌜ (r .at ≤ length (now (r .text))) × (length (now (r .text)) ≤ textMost) ⌝ }
     requires { ⌜ (2 * used ≤ r .at) × (16384 ≤ length (now frames)) ⌝ }
     ensures { λ l. ⌜ Taken (now (r .entry .text)) (scan (ahead (r .entry))) (r .entry .at) used (now (frames .entry)) (now (frames .exit)) l ⌝ }
 {
@@ -31,7 +32,7 @@ fn next<'a, 'b>(r: Reader<'a>, frames: &'b mut [u8], used: usize) -> Line
 
 // Decodes the line of text that starts at `at` into frames from `used` on, by a reader that stands there.
 pub fn next_line(text: &[u8], at: usize, frames: &mut [u8], used: usize) -> Line
-    requires { ⌜ (at ≤ length (now text)) × (length (now text) ≤ 32768) ⌝ }
+    requires { ⌜ (at ≤ length (now text)) × (length (now text) ≤ textMost) ⌝ }
     requires { ⌜ (2 * used ≤ at) × (16384 ≤ length (now frames)) ⌝ }
     ensures { λ l. ⌜ Taken (now (text .entry)) (scan (drop at (now (text .entry)))) at used (now (frames .entry)) (now (frames .exit)) l ⌝ }
 {

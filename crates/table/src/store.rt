@@ -132,6 +132,6 @@ pub fn fill(numbers: &mut [u64], head: Head, rules: &[u64])
     put_head(numbers, head);
     put_firsts(numbers, rules, n, states);
     put_rows(numbers, rules, n);
-    clear(numbers, states * 64);
+    clear(numbers, states * layout::SYMBOLS);
     put_entries(numbers, rules, n);
 }

@@ -55,7 +55,7 @@ alone-given r t e =
     (given-injective (r .value) t (i .1), no-length (r .left) (eqb-true (length (r .left)) 0 (not-false (eqb (length (r .left)) 0) (i .0))))
 
 -- Reading is sound.
-pub read-sound : (ar bs : List ℕ) (t : Tree) → readTree ar bs ≡ given t → (bs ≡ preorder t) × Ranked ar t × Levels t 64 × (length bs ≤ 32768)
+pub read-sound : (ar bs : List ℕ) (t : Tree) → readTree ar bs ≡ given t → (bs ≡ preorder t) × Ranked ar t × Levels t depthMost × (length bs ≤ treeMost)
 unfolding readTree
 read-sound ar bs t e =
     let i = refuse-given (wrongSize bs) _ _ (treeAt depthMost ar 0 bs then alone) t e in
@@ -64,12 +64,12 @@ read-sound ar bs t e =
     let k = alone-given (j .0) t (j .2) in (
       a .is ∙ ap (λ (x : List ℕ). preorder (j .0 .value) ++ x) (k .1) ∙ append-nil (preorder (j .0 .value)) ∙ ap preorder (k .0),
       subst (λ (x : Tree). Ranked ar x) (k .0) (a .ranks),
-      subst (λ (x : Tree). Levels x 64) (k .0) (a .levels),
+      subst (λ (x : Tree). Levels x depthMost) (k .0) (a .levels),
       size-right bs (i .0) .most,
     )
 
 -- Reading is complete.
-pub read-complete : (ar bs : List ℕ) (t : Tree) → bs ≡ preorder t → Ranked ar t → Levels t 64 → length bs ≤ 32768 → readTree ar bs ≡ given t
+pub read-complete : (ar bs : List ℕ) (t : Tree) → bs ≡ preorder t → Ranked ar t → Levels t depthMost → length bs ≤ treeMost → readTree ar bs ≡ given t
 unfolding readTree
 read-complete ar bs t e h l m =
     let s : Sized bs = record { some = rw e (preorder-some t); most = m } in
@@ -78,5 +78,5 @@ read-complete ar bs t e h l m =
     rw (right-size bs s, c)
 
 -- The two together.
-pub read-tree : (ar bs : List ℕ) (t : Tree) → (readTree ar bs ≡ given t) ↔ ((bs ≡ preorder t) × Ranked ar t × Levels t 64 × (length bs ≤ 32768))
+pub read-tree : (ar bs : List ℕ) (t : Tree) → (readTree ar bs ≡ given t) ↔ ((bs ≡ preorder t) × Ranked ar t × Levels t depthMost × (length bs ≤ treeMost))
 read-tree ar bs t = (read-sound ar bs t, λ h. read-complete ar bs t (h .0) (h .1) (h .2) (h .3))
