@@ -8,8 +8,8 @@ use native.Mathlib.Decide.{ℕ-discrete, decLt}
 use native.Mathlib.Omega.{arith}
 use lib.ListN.{length, List·getD-eq-default}
 use Rattle.machine.specs.Machine.{Child, Row}
-use Rattle.ends.specs.Ends.{Ends, stuck, free}
-use Rattle.ends.specs.Companion.{least, freeRow}
+use Rattle.end_laws.specs.Ends.{Ends, stuck, free}
+use Rattle.end_laws.specs.Companion.{least, freeRow}
 use Rattle.summary.specs.Codes.{decode, K, Firm}
 use Rattle.summary.proofs.Tests.{firm-without}
 

@@ -9,8 +9,8 @@ use lib.ListN.{length, getD, getElem?}
 use Rattle.words.specs.Word.{Word}
 use Rattle.machine.specs.Machine.{Child, Row, Table}
 use Rattle.machine.proofs.Find.{index-row}
-use Rattle.ends.specs.Ends.{Ends, stuck, free}
-use Rattle.ends.specs.Companion.{freeRow}
+use Rattle.end_laws.specs.Ends.{Ends, stuck, free}
+use Rattle.end_laws.specs.Companion.{freeRow}
 use Rattle.layout.specs.Leaves.{RowAt}
 use Rattle.summary.specs.Codes.{K}
 use Rattle.layout.proofs.Ahead.{Ahead, Next}

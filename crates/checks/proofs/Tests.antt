@@ -12,8 +12,8 @@ use lib.Dec.{eqb, leb}
 use lib.ListN.{length, getD, getElem?}
 use Rattle.words.specs.Word.{Word}
 use Rattle.machine.specs.Machine.{Table}
-use Rattle.ends.specs.Ends.{lives, clean, stuck}
-use Rattle.ends.specs.Companion.{least, freeRow}
+use Rattle.end_laws.specs.Ends.{lives, clean, stuck}
+use Rattle.end_laws.specs.Companion.{least, freeRow}
 use Rattle.summary.specs.Codes.{decode, K}
 use Rattle.summary.proofs.Codes.{some-lives, none-lives}
 use Rattle.summary.proofs.Tests.{clean-from, unclean-below}

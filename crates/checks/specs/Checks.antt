@@ -6,8 +6,8 @@ use Prim.Native.Nat.{ℕ}
 use lib.Dec.{eqb}
 use lib.ListN.{length, getD, getElem?}
 use Rattle.machine.specs.Machine.{Table}
-use Rattle.ends.specs.Ends.{lives, clean, stuck}
-use Rattle.ends.specs.Companion.{Check, least, freeRow}
+use Rattle.end_laws.specs.Ends.{lives, clean, stuck}
+use Rattle.end_laws.specs.Companion.{Check, least, freeRow}
 use Rattle.summary.specs.Codes.{K}
 use Rattle.checks.specs.declared.Fault.{Fault}
 use Rattle.checks.specs.declared.Fault.the-variants.{At, Nowhere}

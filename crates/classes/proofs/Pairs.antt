@@ -10,7 +10,7 @@ use lib.ListN.{getD}
 use Rattle.machine.specs.Machine.{Child, Rule, Table, find}
 use Rattle.machine.specs.Twins.{Rests, Rules, Match}
 use Rattle.machine.proofs.Kept.{rules-map}
-use Rattle.rules.specs.Compared.{Any}
+use Rattle.same_rules.specs.Compared.{Any}
 use Rattle.words.specs.Told.{Told}
 use Rattle.words.proofs.Told.{told-map}
 use Rattle.classes.specs.Rounds.{Alike, Shaped, Paired, Leads, Picked, Least}

@@ -42,9 +42,9 @@ fn leads(
         return false;
     }
     if first {
-        return rules::same_shapes(frames, numbers, q, mine, frames, numbers, r);
+        return same_rules::same_shapes(frames, numbers, q, mine, frames, numbers, r);
     }
-    rules::same_children(numbers, rep, q, mine, numbers, rep, r)
+    same_rules::same_children(numbers, rep, q, mine, numbers, rep, r)
 }
 
 // The state that stands for the class of q in the new round: the first before q that leads it, or q itself.

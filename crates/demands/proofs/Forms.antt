@@ -12,13 +12,13 @@ use Rattle.machine.specs.Verdict.{earliest}
 use Rattle.machine.specs.Same.{Agree}
 use Rattle.machine.specs.Form.{IsForm}
 use Rattle.machine.proofs.Judged.{judged-earliest}
-use Rattle.normal.proofs.Forms.{forms-agree, forms-words, forms-arities, isForm-agrees, isForm-earliest, form-of-form}
+use Rattle.form_laws.proofs.Forms.{forms-agree, forms-words, forms-arities, isForm-agrees, isForm-earliest, form-of-form}
 use Rattle.text.specs.Reading.{readTable}
 use Rattle.text.specs.Writing.{writeTable, Limited}
 use Rattle.text.proofs.Back.{write-read, read-limited}
 use Rattle.text.proofs.Forth.{read-write}
 use Rattle.text.proofs.RoundTrip.{write-injective}
-use Rattle.canon.proofs.Short.{form-short, form-limited}
+use Rattle.form_writer.proofs.Short.{form-short, form-limited}
 use Rattle.promises.specs.Form.{FormOfText, FormText}
 use Rattle.promises.specs.Comparison.{same, different, ComparisonAnswer}
 use Rattle.promises.proofs.Judgement.{judged-as}

@@ -11,7 +11,7 @@ use Rattle.machine.specs.Machine.{Table}
 use Rattle.machine.specs.Verdict.{earliest, lateAs, late}
 use Rattle.machine.proofs.Judged.{late-injective}
 use Rattle.machine.specs.Form.{IsForm}
-use Rattle.normal.proofs.Unique.{form-unique}
+use Rattle.form_laws.proofs.Unique.{form-unique}
 use Rattle.text.specs.Writing.{writeTable}
 use Rattle.text.proofs.Back.{read-limited}
 use Rattle.promises.specs.Room.{into}

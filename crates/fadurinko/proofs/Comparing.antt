@@ -17,20 +17,20 @@ use Rattle.machine.specs.Form.{formOf, IsForm}
 use Rattle.text.specs.Limits.{textMost}
 use Rattle.text.specs.Writing.{writeTable, Limited}
 use Rattle.text.proofs.RoundTrip.{write-injective}
-use Rattle.canon.proofs.Short.{form-limited}
+use Rattle.form_writer.proofs.Short.{form-limited}
 use Rattle.promises.specs.Room.{into, filled}
 use Rattle.promises.specs.Judgement.{JudgementAnswer}
 use Rattle.promises.specs.Comparison.{parting, Forms, ComparisonAnswer}
 use Rattle.verdict.specs.Judgement.{verdictOf}
 use Rattle.verdict.specs.declared.Judgement.{Judgement}
 use Rattle.verdict.specs.declared.Judgement.the-variants as judgement
-use Rattle.symbols.specs.Parting.{partingOf}
-use Rattle.symbols.specs.declared.Parted.{Parted}
-use Rattle.symbols.specs.declared.Parted.the-variants as parted
-use Rattle.former.specs.declared.Formed.{Formed}
-use Rattle.former.specs.declared.Formed.the-variants as formed
-use Rattle.former.specs.Formed.{said, Judges, EarliestIn, FormInto}
-use Rattle.former.proofs.Forms.{into-fits}
+use Rattle.same_symbols.specs.Parting.{partingOf}
+use Rattle.same_symbols.specs.declared.Parted.{Parted}
+use Rattle.same_symbols.specs.declared.Parted.the-variants as parted
+use Rattle.form_call.specs.declared.Formed.{Formed}
+use Rattle.form_call.specs.declared.Formed.the-variants as formed
+use Rattle.form_call.specs.Formed.{said, Judges, EarliestIn, FormInto}
+use Rattle.form_call.proofs.Forms.{into-fits}
 use Rattle.fadurinko.specs.declared.Compared.{Compared}
 use Rattle.fadurinko.specs.declared.Compared.the-variants as compared
 use Rattle.fadurinko.specs.Answers.{comparisonOf, aboutOf, apartOf, SameForm}

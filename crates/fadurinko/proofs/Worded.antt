@@ -14,10 +14,10 @@ use Rattle.layout.specs.Layout.{Opened}
 use Rattle.table.specs.Opening.{Opens}
 use Rattle.table.specs.declared.Opening.{Opening}
 use Rattle.table.specs.declared.Opening.the-variants as opening
-use Rattle.finder.specs.declared.WordAnswer.{WordAnswer}
-use Rattle.finder.specs.declared.WordAnswer.the-variants as found
-use Rattle.finder.specs.Answer.{Answers}
-use Rattle.finder.proofs.Said.{refused-said}
+use Rattle.why_no_word.specs.declared.WordAnswer.{WordAnswer}
+use Rattle.why_no_word.specs.declared.WordAnswer.the-variants as found
+use Rattle.why_no_word.specs.Answer.{Answers}
+use Rattle.why_no_word.proofs.Said.{refused-said}
 use Rattle.fadurinko.specs.Answers.{refusalOf}
 
 -- A reading that was refused, as opening says it.

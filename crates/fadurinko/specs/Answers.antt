@@ -11,10 +11,10 @@ use Rattle.table.specs.declared.Opening.{Opening}
 use Rattle.table.specs.declared.Opening.the-variants as opening
 use Rattle.verdict.specs.declared.Judgement.{Judgement}
 use Rattle.verdict.specs.declared.Judgement.the-variants as judgement
-use Rattle.finder.specs.declared.WordAnswer.{WordAnswer}
-use Rattle.finder.specs.declared.WordAnswer.the-variants as found
-use Rattle.symbols.specs.declared.Parted.{Parted}
-use Rattle.symbols.specs.declared.Parted.the-variants as parted
+use Rattle.why_no_word.specs.declared.WordAnswer.{WordAnswer}
+use Rattle.why_no_word.specs.declared.WordAnswer.the-variants as found
+use Rattle.same_symbols.specs.declared.Parted.{Parted}
+use Rattle.same_symbols.specs.declared.Parted.the-variants as parted
 use Rattle.fadurinko.specs.declared.Compared.{Compared}
 use Rattle.fadurinko.specs.declared.Compared.the-variants as compared
 

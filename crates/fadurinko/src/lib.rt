@@ -1,10 +1,10 @@
 // The public calls on texts: word, judge, form and compare. None asks anything of its inputs; each
 // settles number, place, counts and every byte of the room.
-use finder::WordAnswer;
-use former::Formed;
-use symbols::Parted;
+use form_call::Formed;
+use same_symbols::Parted;
 use table::Opening;
 use verdict::Judgement;
+use why_no_word::WordAnswer;
 use words::No;
 ghost use mathlib.Core.Path.{_≡_};
 ghost use mathlib.Core.List.{List};
@@ -19,8 +19,8 @@ ghost use Rattle.promises.specs.Judgement.{JudgementAnswer};
 ghost use Rattle.promises.specs.Comparison.{ComparisonAnswer};
 ghost use Rattle.layout.specs.Layout.{Opened};
 ghost use Rattle.verdict.specs.Judgement.{verdictOf};
-ghost use Rattle.finder.specs.Answer as word;
-ghost use Rattle.former.specs.Formed as form;
+ghost use Rattle.why_no_word.specs.Answer as word;
+ghost use Rattle.form_call.specs.Formed as form;
 ghost use Rattle.fadurinko.specs.Answers.{comparisonOf, refusalOf, aboutOf, apartOf, SameForm};
 ghost use Rattle.fadurinko.specs.Parts.{Front, AlikeFor};
 
@@ -56,21 +56,21 @@ pub fn word(text: &[u8], tree: &[u8], room: &mut [u8]) -> WordAnswer
         return refused(opening);
     };
     let mut plan = [0u32; layout::TREE];
-    swift::find(&frames, &numbers, tree, &mut plan, room)
+    word_call::find(&frames, &numbers, tree, &mut plan, room)
 }
 
 // The judgement of a table text.
 pub fn judge(text: &[u8]) -> Judgement
     ensures { λ r. ⌜ JudgementAnswer (now (text .entry)) (verdictOf r) ⌝ }
 {
-    former::judge(text)
+    form_call::judge(text)
 }
 
 // The form of a table text, written to the front of the room; or the refusal, and the room as it was.
 pub fn form(text: &[u8], room: &mut [u8]) -> Formed
     ensures { λ r. ⌜ form.Answers (now (text .entry)) (now (room .entry)) (now (room .exit)) r ⌝ }
 {
-    former::form(text, room)
+    form_call::form(text, room)
 }
 
 // The refusal of a judgement, with the table that it is about.
@@ -131,8 +131,8 @@ fn same_forms(frames: &[u8], numbers: &[u64], frames2: &[u8], numbers2: &[u64]) 
 {
     let mut one = [0u8; layout::TEXT];
     let mut two = [0u8; layout::TEXT];
-    let a = former::form_opened(frames, numbers, &mut one);
-    let b = former::form_opened(frames2, numbers2, &mut two);
+    let a = form_call::form_opened(frames, numbers, &mut one);
+    let b = form_call::form_opened(frames2, numbers2, &mut two);
     let Formed::Form(n) = a else {
         return false;
     };
@@ -148,18 +148,18 @@ pub fn compare(first: &[u8], second: &[u8]) -> Compared
 {
     let mut frames = [0u8; layout::FRAMES];
     let mut numbers = [0u64; layout::NUMBERS];
-    let a = former::judge_into(first, &mut frames, &mut numbers);
+    let a = form_call::judge_into(first, &mut frames, &mut numbers);
     let Judgement::Earliest = a else {
         return about(1, a);
     };
     let mut frames2 = [0u8; layout::FRAMES];
     let mut numbers2 = [0u64; layout::NUMBERS];
-    let b = former::judge_into(second, &mut frames2, &mut numbers2);
+    let b = form_call::judge_into(second, &mut frames2, &mut numbers2);
     let Judgement::Earliest = b else {
         return about(2, b);
     };
     let same = same_forms(&frames, &numbers, &frames2, &numbers2);
-    let parted = symbols::symbols_part(&frames, &numbers, &frames2, &numbers2);
+    let parted = same_symbols::symbols_part(&frames, &numbers, &frames2, &numbers2);
     let Parted::Nowhere = parted else {
         return apart(parted);
     };

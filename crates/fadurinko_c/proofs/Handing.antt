@@ -10,10 +10,10 @@ use Rattle.promises.specs.Word.{lettersOf}
 use Rattle.table.specs.Opening.{Opens, Unchanged}
 use Rattle.table.specs.declared.Opening.{Opening}
 use Rattle.table.specs.declared.Opening.the-variants as opening
-use Rattle.finder.specs.declared.WordAnswer.{WordAnswer}
-use Rattle.finder.specs.Answer as word
-use Rattle.former.specs.declared.Formed.{Formed}
-use Rattle.former.specs.Formed as form
+use Rattle.why_no_word.specs.declared.WordAnswer.{WordAnswer}
+use Rattle.why_no_word.specs.Answer as word
+use Rattle.form_call.specs.declared.Formed.{Formed}
+use Rattle.form_call.specs.Formed as form
 use Rattle.fadurinko_c.specs.Linked.{blank, noEntries, numberOf, entriesOf, lettersEntries, lengthEntries, replied, WordLinked, FormLinked, OpenLinked}
 
 -- Number and entries stay where a yes gets another value.

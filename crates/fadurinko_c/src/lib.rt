@@ -1,10 +1,10 @@
 // The public calls as C and Rust link them. The number is returned, 0 for a yes; what else an answer
 // holds goes into one array, every entry of which each call writes.
 use fadurinko::Compared;
-use finder::WordAnswer;
-use former::Formed;
+use form_call::Formed;
 use table::Opening;
 use verdict::Judgement;
+use why_no_word::WordAnswer;
 use words::No;
 ghost use mathlib.Core.Path.{_≡_};
 ghost use lib.ListN.{length};
@@ -15,8 +15,8 @@ ghost use Rattle.promises.specs.Word.{wordAnswer, wordInto};
 ghost use Rattle.promises.specs.Judgement.{JudgementAnswer};
 ghost use Rattle.layout.specs.Layout.{Opened};
 ghost use Rattle.verdict.specs.Judgement.{verdictOf};
-ghost use Rattle.finder.specs.Answer as word;
-ghost use Rattle.former.specs.Formed as form;
+ghost use Rattle.why_no_word.specs.Answer as word;
+ghost use Rattle.form_call.specs.Formed as form;
 ghost use Rattle.fadurinko.specs.Answers.{comparisonOf};
 ghost use Rattle.fadurinko_c.specs.Linked.{eight, blank, noEntries, numberOf, entriesOf, lettersEntries, lengthEntries, replied};
 ghost use Rattle.fadurinko_c.specs.Linked.{verdictNumber, verdictEntries, comparisonNumber, comparisonEntries};
@@ -186,7 +186,7 @@ pub extern "C" fn fadurinko_find(
     ensures { λ r. ⌜ ((M : Table) → Opened (now (frames .entry)) (now (numbers .entry)) M
         → WordLinked (wordInto M (now (tree .entry)) (length (now (room .entry)))) (now (room .entry)) (now (room .exit)) r (now (answer .exit))) ⌝ }
 {
-    let found = swift::find(frames, numbers, tree, plan, room);
+    let found = word_call::find(frames, numbers, tree, plan, room);
     tell_word(found, answer)
 }
 

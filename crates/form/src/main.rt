@@ -1,6 +1,6 @@
 // The form of the table text of a file or on standard input; or `no`, the number and the place.
-use desk::Input;
-use former::Formed;
+use console::Input;
+use form_call::Formed;
 
 fn answer(text: &[u8]) {
     let mut room = [0u8; layout::TEXT];
@@ -9,7 +9,7 @@ fn answer(text: &[u8]) {
             output::print(output::front(&room, length));
         }
         Formed::Refused(no) => {
-            desk::print_no(&[no.number as u64, no.place as u64]);
+            console::print_no(&[no.number as u64, no.place as u64]);
         }
     }
 }
@@ -17,7 +17,7 @@ fn answer(text: &[u8]) {
 fn main() {
     // One byte more than a text may have, so that a longer one is seen to be too long.
     let mut text = [0u8; layout::TEXT + 1];
-    let Input::Bytes(n) = desk::read_text(
+    let Input::Bytes(n) = console::read_text(
         b"usage: form [FILE]: a table text, from FILE or standard input; answers its form's text or no NUMBER PLACE\n",
         &mut text,
     ) else {

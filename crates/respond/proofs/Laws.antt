@@ -19,10 +19,10 @@ use Rattle.text.specs.Lines.{bytesOf}
 use Rattle.trees.specs.Shape.{treeMost, depthMost, treeAt, alone, readTree}
 use Rattle.promises.specs.Word.{wordIn, wordOn, wordInto}
 use Rattle.layout.specs.Layout.{Opened}
-use Rattle.finder.specs.Answer.{said, Answers}
-use Rattle.finder.specs.declared.WordAnswer.{WordAnswer}
-use Rattle.finder.specs.declared.WordAnswer.the-variants as found
-use Rattle.finder.specs.declared.Letters.{Letters}
+use Rattle.why_no_word.specs.Answer.{said, Answers}
+use Rattle.why_no_word.specs.declared.WordAnswer.{WordAnswer}
+use Rattle.why_no_word.specs.declared.WordAnswer.the-variants as found
+use Rattle.why_no_word.specs.declared.Letters.{Letters}
 use Rattle.table.specs.Opening.{Opens}
 use Rattle.table.specs.declared.Opening.{Opening}
 use Rattle.table.specs.declared.Opening.the-variants as opening

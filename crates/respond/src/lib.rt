@@ -2,12 +2,12 @@
 // refusal, or that the line is not hexadecimal.
 mod piece;
 
-use finder::WordAnswer;
 use hexline::SoFar;
 pub use piece::Rest;
 pub use piece::answer;
 pub use piece::take;
 use table::Opening;
+use why_no_word::WordAnswer;
 use words::No;
 ghost use mathlib.Core.List.{List};
 ghost use Prim.Native.Nat.{ℕ, _<_};
@@ -55,7 +55,7 @@ fn to_tree(
     ensures { λ r. ⌜ ((M : Table) → Opened (now (frames .entry)) (now (numbers .entry)) M
         → Responds (wordInto M (now (tree .entry)) (length (now (room .entry)))) (now (out .entry)) used (now (out .exit)) r) ⌝ }
 {
-    match swift::find(frames, numbers, tree, plan, room) {
+    match word_call::find(frames, numbers, tree, plan, room) {
         WordAnswer::Found(found) => {
             let letters = output::front(room, found.length);
             let used = answers::put_word(found.terms, letters, out, used);

@@ -19,9 +19,9 @@ use Rattle.text.specs.Writing.{writeTable, symbolLines, rowLines, initialFrame,
 use Rattle.trees.specs.Preorder.{preorder}
 use Rattle.trees.specs.Shape.{forestAt, treeAt, readTree}
 use Rattle.trees.specs.Lacking.{lacks}
-use Rattle.ends.specs.Ends.{along, total}
-use Rattle.ends.specs.Companion.{judge, judgeBy, least, known, reached, settle, sweep, visit as visit-rows, spread, follow, markAll, marked}
-use Rattle.ends.specs.Cases.{m2-earliest}
+use Rattle.end_laws.specs.Ends.{along, total}
+use Rattle.end_laws.specs.Companion.{judge, judgeBy, least, known, reached, settle, sweep, visit as visit-rows, spread, follow, markAll, marked}
+use Rattle.end_laws.specs.Cases.{m2-earliest}
 use Rattle.promises.specs.Word.{wordIn, wordOn, wordAnswer, wordRoom}
 use Rattle.promises.specs.Judgement.{JudgementAnswer}
 use Rattle.starred.specs.Texts.{M2-earliest, M2-form}

@@ -13,14 +13,14 @@ use Rattle.text.specs.Frames.{symbolFrame, startFrame, ruleFrame, step}
 use Rattle.text.specs.Reading.{readLines, readTable}
 use Rattle.text.proofs.Back.{read-limited}
 use Rattle.text.specs.Writing.{writeTable, symbolLines, rowLines, initialFrame, rowFrame, childrenText}
-use Rattle.normal.proofs.Cases.{left, right, listing}
+use Rattle.form_laws.proofs.Cases.{left, right, listing}
 use Rattle.trees.specs.Preorder.{preorder}
 use Rattle.trees.specs.Shape.{forestAt, treeAt, readTree}
 use Rattle.trees.specs.Lacking.{lacks}
-use Rattle.ends.specs.Ends.{along, total}
-use Rattle.ends.specs.Companion.{judge, judgeBy, least, known, reached, settle, sweep, visit, spread, follow, markAll, marked}
-use Rattle.ends.specs.Cases.{m1, m1-earliest, m2, turn as turn-table}
-use Rattle.ends.proofs.Companion.{judge-judged}
+use Rattle.end_laws.specs.Ends.{along, total}
+use Rattle.end_laws.specs.Companion.{judge, judgeBy, least, known, reached, settle, sweep, visit, spread, follow, markAll, marked}
+use Rattle.end_laws.specs.Cases.{m1, m1-earliest, m2, turn as turn-table}
+use Rattle.end_laws.proofs.Companion.{judge-judged}
 use Rattle.promises.specs.Word.{wordIn, wordOn, wordAnswer, wordRoom}
 use Rattle.promises.specs.Judgement.{JudgementAnswer}
 use Rattle.starred.specs.Texts.{T, T-form, M1, M1-earliest, M2, turn}

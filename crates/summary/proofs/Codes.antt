@@ -5,7 +5,7 @@ use Prim.Native.Nat.{ℕ, zero, suc, _+_, _%_, _≤_, _<_}
 use native.Mathlib.Decide.{decLt}
 use native.Mathlib.Omega.{arith}
 use borrow.Author.Tests.{lt-ltb, le-ltb, eq-eqb, ne-eqb}
-use Rattle.ends.specs.Ends.{Letters, nothing, one, several, Ends, unknown, both, join, through, lettered, lives, before}
+use Rattle.end_laws.specs.Ends.{Letters, nothing, one, several, Ends, unknown, both, join, through, lettered, lives, before}
 use Rattle.summary.specs.Codes.{lettersOf, decode}
 
 -- ---- letters

@@ -6,8 +6,8 @@ use native.Mathlib.Omega.{arith}
 use lib.ListN.{length, getD, set, length-map, length-set, List·getD-map}
 use lib.Seq.{set-getD}
 use Rattle.text.specs.Limits.{statesMost}
-use Rattle.ends.specs.Ends.{Ends, unknown, join, rank, at, ranks}
-use Rattle.ends.proofs.Ranks.{join-rank, join-same, ranks-le, ranks-set}
+use Rattle.end_laws.specs.Ends.{Ends, unknown, join, rank, at, ranks}
+use Rattle.end_laws.proofs.Ranks.{join-rank, join-same, ranks-le, ranks-set}
 use Rattle.summary.specs.Codes.{decode, K, summaries}
 use Rattle.summary.specs.Grown.{Grown}
 use Rattle.summary.proofs.Codes.{nothing-known}

@@ -10,8 +10,8 @@ use borrow.Author.Tests.{eq-eqb, ne-eqb}
 use lib.Dec.{eqb}
 use lib.ListN.{length, getD}
 use Rattle.words.specs.Word.{Word}
-use Rattle.ends.specs.Ends.{Side, left, right, end, Letters, one, Ends, blank, alone, rankOf, rank, various, clean, only, stuck}
-use Rattle.ends.proofs.Sides.{end-none, end-left, end-right}
+use Rattle.end_laws.specs.Ends.{Side, left, right, end, Letters, one, Ends, blank, alone, rankOf, rank, various, clean, only, stuck}
+use Rattle.end_laws.proofs.Sides.{end-none, end-left, end-right}
 use Rattle.summary.specs.Codes.{sideOf, lettersOf, decode, Firm}
 use Rattle.summary.proofs.Codes.{Kind, none-of, one-of, more-of, kind, letter-one, letters-several, without-empty, has-empty, lacks-empty}
 

@@ -6,7 +6,7 @@ use Prim.Native.Nat.{ℕ, zero, suc, _%_}
 use lib.Dec.{ltb}
 use lib.ListN.{getD}
 use Rattle.words.specs.Word.{Word}
-use Rattle.ends.specs.Ends.{Side, left, right, Letters, nothing, one, several, Ends, stuck}
+use Rattle.end_laws.specs.Ends.{Side, left, right, Letters, nothing, one, several, Ends, stuck}
 
 -- The side that a number names: 0 is the left.
 abbrev pub sideOf : ℕ → Side

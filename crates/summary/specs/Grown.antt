@@ -3,7 +3,7 @@ use mathlib.Core.Path.{_≡_}
 use mathlib.Core.List.{List}
 use Prim.Native.Nat.{ℕ, _+_}
 use lib.ListN.{length}
-use Rattle.ends.specs.Ends.{ranks}
+use Rattle.end_laws.specs.Ends.{ranks}
 use Rattle.summary.specs.Codes.{summaries}
 
 -- The numbers xs become ys, and k tells how much more is known of all states together: if it is nothing, the summaries stay.

@@ -5,7 +5,7 @@ ghost use mathlib.Core.List.{_∷_};
 ghost use mathlib.Core.Option.{some};
 ghost use Prim.Native.Nat.{_+_};
 ghost use Rattle.words.specs.Word.{Word};
-ghost use Rattle.ends.specs.Ends.{alone, stuck};
+ghost use Rattle.end_laws.specs.Ends.{alone, stuck};
 ghost use Rattle.summary.specs.Codes.{decode, Firm};
 
 // The letter and one more.

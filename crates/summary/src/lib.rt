@@ -2,7 +2,7 @@
 ghost use mathlib.Core.Path.{_≡_};
 ghost use Prim.Native.Nat.{_<_};
 ghost use lib.ListN.{getD};
-ghost use Rattle.ends.specs.Ends.{both, join, before, beside, rankOf, rank};
+ghost use Rattle.end_laws.specs.Ends.{both, join, before, beside, rankOf, rank};
 ghost use Rattle.summary.specs.Codes.{sideOf, lettersOf, decode};
 pub use letter::lettered;
 pub use letter::narrow;

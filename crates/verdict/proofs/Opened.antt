@@ -8,15 +8,15 @@ use lib.ListN.{getD, replicate, length-replicate, getD-replicate, List·getD-eq-
 use Rattle.machine.specs.Machine.{Table}
 use Rattle.machine.specs.Verdict.{Verdict, Judged}
 use Rattle.text.specs.Limits.{statesMost}
-use Rattle.ends.specs.Ends.{Side, left, right}
-use Rattle.ends.specs.Meaning.{Witnessed}
-use Rattle.ends.specs.Companion.{judgeBy}
+use Rattle.end_laws.specs.Ends.{Side, left, right}
+use Rattle.end_laws.specs.Meaning.{Witnessed}
+use Rattle.end_laws.specs.Companion.{judgeBy}
 use Rattle.layout.specs.Layout.{Opened}
 use Rattle.visit.specs.Reaches.{Reaches}
 use Rattle.summary.specs.Codes.{K}
-use Rattle.blank.specs.Blank.{Blanks, EmptyTold, AllListed}
-use Rattle.blank.proofs.Empty.{blanks-witnessed}
-use Rattle.sides.specs.Steps.{Settles}
+use Rattle.empty_words.specs.Blank.{Blanks, EmptyTold, AllListed}
+use Rattle.empty_words.proofs.Empty.{blanks-witnessed}
+use Rattle.end_summaries.specs.Steps.{Settles}
 use Rattle.checks.specs.Checks.{allChecks}
 use Rattle.verdict.proofs.Promise.{AllReached, Known, checks-judged}
 

@@ -7,7 +7,7 @@ use native.Mathlib.Numerals.{add-one}
 use native.Mathlib.Omega.{arith}
 use Rattle.machine.specs.Machine.{Table}
 use Rattle.machine.specs.Verdict.{Verdict, earliest, late}
-use Rattle.ends.specs.Companion.{Check, judgeBy}
+use Rattle.end_laws.specs.Companion.{Check, judgeBy}
 use Rattle.checks.specs.Checks.{checkAt, leastAt, allChecks}
 
 module _ (M : Table) (m xs ys : List ℕ) where

@@ -12,12 +12,12 @@ use Rattle.machine.specs.Machine.{Row, Table, RowFits, WellMade}
 use Rattle.machine.specs.Earliest.{L, Reached, HasWord, LeftStart, LeftRule}
 use Rattle.machine.specs.Verdict.{conditions, Judged}
 use Rattle.machine.proofs.Find.{every-at, index-row}
-use Rattle.ends.specs.Ends.{left, right, stuck}
-use Rattle.ends.specs.Meaning.{Witnessed, Covering}
-use Rattle.ends.specs.Companion.{freeRow, judgeBy}
-use Rattle.ends.proofs.Told.{lives-word, dead-word, clean-state, unclean-state}
-use Rattle.ends.proofs.Local.{all-apart, free-left, unfree-left, free-start, stuck-start}
-use Rattle.ends.proofs.Companion.{Tells, judged-by}
+use Rattle.end_laws.specs.Ends.{left, right, stuck}
+use Rattle.end_laws.specs.Meaning.{Witnessed, Covering}
+use Rattle.end_laws.specs.Companion.{freeRow, judgeBy}
+use Rattle.end_laws.proofs.Told.{lives-word, dead-word, clean-state, unclean-state}
+use Rattle.end_laws.proofs.Local.{all-apart, free-left, unfree-left, free-start, stuck-start}
+use Rattle.end_laws.proofs.Companion.{Tells, judged-by}
 use Rattle.summary.specs.Codes.{K}
 use Rattle.checks.specs.Checks.{checkAt, allChecks}
 

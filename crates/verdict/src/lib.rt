@@ -4,7 +4,7 @@ ghost use mathlib.Core.Path.{_≡_};
 ghost use lib.ListN.{length};
 ghost use Rattle.machine.specs.Machine.{Table};
 ghost use Rattle.machine.specs.Verdict.{Judged};
-ghost use Rattle.ends.specs.Companion.{judgeBy};
+ghost use Rattle.end_laws.specs.Companion.{judgeBy};
 ghost use Rattle.layout.specs.Layout.{numbersSize, Opened};
 ghost use Rattle.checks.specs.Checks.{allChecks};
 ghost use Rattle.verdict.specs.Judgement.{verdictOf};
@@ -53,9 +53,9 @@ pub fn judge_opened(frames: &[u8], numbers: &[u64]) -> Judgement
     let mut order = [0u8; layout::STATES];
     let n = visit::reach(numbers, &mut order, &mut marks);
     let mut left = [0u16; layout::STATES];
-    blank::blanks(numbers, &order, n, &mut left);
+    empty_words::blanks(numbers, &order, n, &mut left);
     let mut right = left;
-    sides::settle(frames, numbers, &order, n, 0, &mut left);
-    sides::settle(frames, numbers, &order, n, 1, &mut right);
+    end_summaries::settle(frames, numbers, &order, n, 0, &mut left);
+    end_summaries::settle(frames, numbers, &order, n, 1, &mut right);
     first_fault(frames, numbers, &marks, &left, &right)
 }

@@ -10,9 +10,9 @@ use lib.ListN.{length, getD, set, take, length-append}
 use lib.Seq.{getD-set-same, getD-set-other, take-suc-set}
 use borrow.Author.Tests.{lt-ltb, le-ltb, eq-eqb, ne-eqb}
 use Rattle.machine.specs.Form.{Test, numberIn, meet}
-use Rattle.normal.proofs.Lists.{mem-all}
-use Rattle.normal.proofs.Number.{Known, by-test, number-here, number-there, number-append, known-append}
-use Rattle.normal.proofs.Meet.{known-or, meet-old, meet-new, meet-grown, grown-length}
+use Rattle.form_laws.proofs.Lists.{mem-all}
+use Rattle.form_laws.proofs.Number.{Known, by-test, number-here, number-there, number-append, known-append}
+use Rattle.form_laws.proofs.Meet.{known-or, meet-old, meet-new, meet-grown, grown-length}
 use Rattle.text.specs.Limits.{statesMost}
 use Rattle.visit.specs.Visiting.{byRep, mark, Listing, Met}
 

@@ -10,7 +10,7 @@ use lib.Seq.{slice, slice-cons, drop-cons}
 use Rattle.machine.specs.Machine.{Child, Row, Table}
 use Rattle.machine.specs.Form.{childStates, meet}
 use Rattle.machine.proofs.Find.{index-row}
-use Rattle.normal.specs.Listed.{kids}
+use Rattle.form_laws.specs.Listed.{kids}
 use Rattle.layout.specs.Leaves.{RowAt, RulesOf, stateNo}
 use Rattle.visit.specs.Visiting.{byRep, Listing, Met, statesOf}
 use Rattle.visit.proofs.Marks.{meet-append, meet-longer}

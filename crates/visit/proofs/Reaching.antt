@@ -12,11 +12,11 @@ use Rattle.machine.specs.Machine.{Table}
 use Rattle.machine.specs.Earliest.{Reached}
 use Rattle.machine.specs.Form.{order}
 use Rattle.text.specs.Limits.{statesMost}
-use Rattle.normal.specs.Listed.{listed, numberOf}
-use Rattle.normal.proofs.Lists.{ordered-at}
-use Rattle.normal.proofs.Number.{Known, number-same}
-use Rattle.normal.proofs.Order.{order-listed, listed-inside}
-use Rattle.normal.proofs.Reach.{listed-reached, reached-known}
+use Rattle.form_laws.specs.Listed.{listed, numberOf}
+use Rattle.form_laws.proofs.Lists.{ordered-at}
+use Rattle.form_laws.proofs.Number.{Known, number-same}
+use Rattle.form_laws.proofs.Order.{order-listed, listed-inside}
+use Rattle.form_laws.proofs.Reach.{listed-reached, reached-known}
 use Rattle.layout.specs.Layout.{Opened}
 use Rattle.visit.specs.Visiting.{byRep, mark, Listing}
 use Rattle.visit.specs.Reaches.{Own, Marked, Reaches}

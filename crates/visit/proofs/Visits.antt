@@ -9,9 +9,9 @@ use lib.Seq.{getD-take}
 use borrow.Author.Tests.{eq-eqb}
 use Rattle.machine.specs.Machine.{Table}
 use Rattle.machine.specs.Form.{meet, visit, order}
-use Rattle.normal.specs.Listed.{Selfsame, kids}
-use Rattle.normal.proofs.Visit.{Visited, visited-start, visited-step, visited-length}
-use Rattle.normal.proofs.Order.{visit-next, visit-done, order-enough}
+use Rattle.form_laws.specs.Listed.{Selfsame, kids}
+use Rattle.form_laws.proofs.Visit.{Visited, visited-start, visited-step, visited-length}
+use Rattle.form_laws.proofs.Order.{visit-next, visit-done, order-enough}
 use Rattle.layout.specs.Layout.{Opened}
 use Rattle.visit.specs.Visiting.{byRep, Listing, Met}
 use Rattle.visit.proofs.Marks.{mark-fresh, meet-one-new}

@@ -8,7 +8,7 @@ ghost use Rattle.machine.specs.Machine.{Rule, Table};
 ghost use Rattle.text.specs.Limits.{statesMost};
 ghost use Rattle.layout.specs.Layout.{Opened};
 ghost use Rattle.layout.specs.Leaves.{Holds};
-ghost use Rattle.normal.specs.Listed.{kids};
+ghost use Rattle.form_laws.specs.Listed.{kids};
 ghost use Rattle.visit.specs.Visiting.{Room, Met, statesOf, Visits};
 ghost use Rattle.visit.specs.Reaches.{Own, Reaches};
 use layout::STATES;

@@ -4,7 +4,7 @@
 mod report;
 mod stream;
 
-use desk::Input;
+use console::Input;
 
 // Answers the input under the table of a text.
 fn answer_under(text: &[u8]) {
@@ -18,7 +18,7 @@ fn answer_under(text: &[u8]) {
 fn answer_file(usage: &[u8]) {
     // One byte more than a text may have, so that a longer one is seen to be too long.
     let mut text = [0u8; layout::TEXT + 1];
-    let Input::Bytes(n) = desk::read_file(1, usage, &mut text) else {
+    let Input::Bytes(n) = console::read_file(1, usage, &mut text) else {
         return;
     };
     answer_under(output::front(&text, n));
@@ -27,7 +27,7 @@ fn answer_file(usage: &[u8]) {
 fn main() {
     let usage =
         b"usage: word TABLEFILE: trees on standard input, one a line in hexadecimal; answers word LENGTH TERMS HEX, no NUMBER PLACE or not hex\n";
-    if desk::started_with(1, usage) {
+    if console::started_with(1, usage) {
         answer_file(usage);
     }
 }

@@ -3,7 +3,7 @@
 // memory is the same however long the input is, and no answer waits while the input pauses.
 use crate::report;
 use crate::report::Watch;
-use desk::Input;
+use console::Input;
 use hexline::SoFar;
 use table::Opening;
 ghost use mathlib.Core.Path.{_≡_};
@@ -79,7 +79,7 @@ fn read_some(
 ) -> State {
     let watch = state.watch;
     let line = state.line;
-    let Input::Bytes(n) = desk::read_some(libc::STDIN_FILENO, piece) else {
+    let Input::Bytes(n) = console::read_some(libc::STDIN_FILENO, piece) else {
         os::fail(b"standard input");
         return ended(hexline::start(), watch);
     };

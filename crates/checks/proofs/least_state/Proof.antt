@@ -5,7 +5,7 @@ use mathlib.Core.Path.{_≡_, sym, ap, _∙_}
 use Prim.Native.Nat.{_-_, _≤_}
 use borrow.Author.Tests.{not-true, not-false}
 use Rattle.machine.specs.Machine.{Table}
-use Rattle.ends.specs.Companion.{least}
+use Rattle.end_laws.specs.Companion.{least}
 use Rattle.checks.specs.Checks.{passesAt}
 use Rattle.checks.proofs.Tests.{least-on, least-here, least-end}
 use Rattle.checks.proofs.least_state.Statement.{statement}

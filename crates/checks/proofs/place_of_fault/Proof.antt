@@ -1,7 +1,7 @@
 -- `place_of_fault` meets its contract, number by number.
 use native.Mathlib.Omega.{arith}
 use mathlib.Core.Path.{sym, ap, _∙_}
-use Rattle.ends.specs.Companion.{least}
+use Rattle.end_laws.specs.Companion.{least}
 use Rattle.checks.specs.Checks.{passesAt, leastAt}
 use Rattle.checks.proofs.Tests.{places-states, least-none}
 use borrow.Author.Needs.{needs}

@@ -1,6 +1,6 @@
 -- `next_to` meets its contract, at either side.
 use mathlib.Core.Path.{sym, ap, _∙_}
-use Rattle.ends.specs.Ends.{beside}
+use Rattle.end_laws.specs.Ends.{beside}
 use Rattle.summary.specs.Codes.{decode}
 use Rattle.summary.proofs.Tests.{side-left, side-right}
 use borrow.Author.Needs.{needs}

@@ -1,6 +1,6 @@
 -- `rank_of` meets its contract: the letters' rank, and one more with the empty word.
 use Rattle.summary.proofs.Tests.{rank-without, rank-with}
-use Rattle.ends.proofs.Ranks.{rank-le}
+use Rattle.end_laws.proofs.Ranks.{rank-le}
 use native.Mathlib.Omega.{arith}
 use Rattle.summary.specs.Codes.{decode}
 use borrow.Author.Needs.{needs}

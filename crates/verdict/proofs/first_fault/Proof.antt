@@ -4,7 +4,7 @@ use borrow.Author.Needs.{needs}
 use mathlib.Core.Path.{_≡_, sym, ap, _∙_}
 use Prim.Native.Nat.{_-_, _≤_}
 use Rattle.machine.specs.Machine.{Table}
-use Rattle.ends.specs.Companion.{judgeBy}
+use Rattle.end_laws.specs.Companion.{judgeBy}
 use Rattle.layout.specs.Layout.{Opened}
 use Rattle.checks.specs.Checks.{placeOf, allChecks}
 use Rattle.verdict.proofs.Order.{upTo, from-first, judge-found, judge-next, judge-end}

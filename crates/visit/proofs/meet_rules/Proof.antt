@@ -10,7 +10,7 @@ use Rattle.machine.specs.Machine.{Table}
 use Rattle.machine.specs.Form.{childStates}
 use Rattle.text.specs.Limits.{statesMost}
 use Rattle.layout.specs.Layout.{Opened}
-use Rattle.normal.specs.Listed.{kids}
+use Rattle.form_laws.specs.Listed.{kids}
 use Rattle.visit.specs.Visiting.{Met}
 use Rattle.visit.proofs.Meeting.{rules-all, rules-next, rules-end}
 use Rattle.visit.proofs.meet_rules.Statement.{statement}

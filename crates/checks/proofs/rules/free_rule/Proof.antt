@@ -4,7 +4,7 @@ use borrow.Author.Needs.{needs}
 use mathlib.Core.Path.{ap, _∙_}
 use Prim.Native.Nat.{_<_}
 use Rattle.machine.specs.Machine.{Row, Table}
-use Rattle.ends.specs.Ends.{stuck}
+use Rattle.end_laws.specs.Ends.{stuck}
 use Rattle.layout.specs.Layout.{Opened}
 use Rattle.layout.specs.Leaves.{RowAt}
 use Rattle.summary.specs.Codes.{decode}

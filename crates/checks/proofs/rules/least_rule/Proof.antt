@@ -7,7 +7,7 @@ use Prim.Native.Nat.{_-_, _≤_}
 use lib.ListN.{length, getElem?}
 use Rattle.machine.specs.Machine.{Table}
 use Rattle.text.specs.Limits.{rowsMost}
-use Rattle.ends.specs.Companion.{least}
+use Rattle.end_laws.specs.Companion.{least}
 use Rattle.layout.specs.Layout.{Opened}
 use Rattle.summary.specs.Codes.{K}
 use Rattle.checks.proofs.Tests.{least-on, least-here, least-end}

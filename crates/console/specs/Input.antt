@@ -1,0 +1,9 @@
+-- What reading answers. Definitions only.
+use Prim.Native.Nat.{ℕ, _≤_}
+use Rattle.console.specs.declared.Input as declared
+use Rattle.console.specs.declared.Input.the-variants as input
+
+-- No more bytes than there is room for.
+abbrev pub Inside : ℕ → declared.Input → Type 0
+Inside most (input.Bytes n) = n ≤ most
+Inside most input.Failed = Unit {0}

@@ -1,0 +1,111 @@
+-- The stack of waiting numbers: the number that comes next, and those under it, from the top down. The lowest place of the stack holds none.
+use mathlib.Core.Path.{_≡_, refl, ap, _∙_}
+use mathlib.Core.List.{List, [], _∷_, _++_}
+use Prim.Native.Nat.{ℕ, zero, suc, _+_, _-_, _*_, _<_, _≤_}
+use native.Mathlib.Omega.{arith}
+use lib.ListN.{length, getD, set, length-set}
+use lib.Seq.{getD-set-same, getD-set-other}
+use Rattle.machine.specs.Machine.{Child}
+use Rattle.text.specs.Limits.{statesMost, arityMost}
+use Rattle.layout.specs.Leaves.{stateNo}
+use Rattle.measure.specs.Tallied.{NextIs}
+use Rattle.measure.proofs.Held.{kids}
+
+-- The numbers at places n, n - 1, .. and 1.
+abbrev pub under : List ℕ → ℕ → List ℕ
+under W zero = []
+under W (suc n) = getD W (suc n) 0 ∷ under W n
+
+-- There are as many.
+pub under-long : (W : List ℕ) (n : ℕ) → length (under W n) ≡ n
+under-long W zero = refl
+under-long W (suc n) = ap suc (under-long W n)
+
+-- What waits where the stack has `top` places: none if it has none left.
+abbrev pub waits : List ℕ → ℕ → ℕ → List ℕ
+waits W zero next = []
+waits W (suc n) next = next ∷ under W n
+
+-- What waits where there is a place left.
+pub waits-some : (W : List ℕ) (top next : ℕ) → 0 < top → waits W top next ≡ next ∷ under W (top - 1)
+waits-some W zero next h = absurd (omega arith)
+waits-some W (suc n) next h = let e : suc n - 1 ≡ n = omega arith in rw e refl
+
+-- The stack W′ is the stack W up to place n, and then holds a, b and c.
+pub record Stored (W W′ : List ℕ) (n a b c : ℕ) : Type 0 where
+  pub kept : (i : ℕ) → i ≤ n → getD W′ i 0 ≡ getD W i 0
+  pub one : getD W′ (suc n) 0 ≡ a
+  pub two : getD W′ (suc (suc n)) 0 ≡ b
+  pub three : getD W′ (suc (suc (suc n))) 0 ≡ c
+
+-- Three stores make it so.
+pub stored : (W : List ℕ) (n i j k a b c : ℕ) → i ≡ suc n → j ≡ suc (suc n) → k ≡ suc (suc (suc n)) → k < length W
+    → Stored W (set (set (set W i a) j b) k c) n a b c
+stored W n i j k a b c x y z l =
+    let li = length-set W i a in
+    let lj = length-set (set W i a) j b in
+    record {
+      kept = λ o m. getD-set-other (set (set W i a) j b) k o c 0 (omega arith) ∙ getD-set-other (set W i a) j o b 0 (omega arith)
+          ∙ getD-set-other W i o a 0 (omega arith);
+      one = rw (← x)
+          (getD-set-other (set (set W i a) j b) k i c 0 (omega arith) ∙ getD-set-other (set W i a) j i b 0 (omega arith) ∙ getD-set-same W i a 0 (omega arith));
+      two = rw (← y) (getD-set-other (set (set W i a) j b) k j c 0 (omega arith) ∙ getD-set-same (set W i a) j b 0 (omega arith));
+      three = rw (← z) (getD-set-same (set (set W i a) j b) k c 0 (omega arith));
+    }
+
+-- What waits under a place is the same where the stack is.
+under-kept : (W W′ : List ℕ) (n : ℕ) → ((i : ℕ) → i ≤ n → getD W′ i 0 ≡ getD W i 0) → under W′ n ≡ under W n
+under-kept W W′ zero k = refl
+under-kept W W′ (suc n) k =
+    let a : getD W′ (suc n) 0 ≡ getD W (suc n) 0 = k (suc n) (omega arith) in
+    let b = under-kept W W′ n (λ i h. k i (omega arith)) in
+    cc
+
+-- Nothing is put on the stack: what was under it waits, the number on its top first.
+pop : (W W′ : List ℕ) (n next : ℕ) → ((i : ℕ) → i ≤ n → getD W′ i 0 ≡ getD W i 0) → next ≡ getD W n 0 → waits W′ n next ≡ under W n
+pop W W′ zero next k e = refl
+pop W W′ (suc n) next k e = let b = under-kept W W′ n (λ i h. k i (omega arith)) in cc
+
+-- The waiting number a is that of the child with n others behind it, if that is not the first: its state, with e symbols above it.
+abbrev pub Behind : List Child → ℕ → ℕ → ℕ → Type 0
+Behind cs e n a = (j : ℕ) → suc (suc j) + n ≡ length cs → a ≡ statesMost * e + stateNo cs (suc j)
+
+-- The waiting numbers of the first, the last, the last but one and the last but two of a rule's children with e symbols above them.
+pub record Told (cs : List Child) (e u a b c : ℕ) : Type 0 where
+  pub first : u ≡ statesMost * e + stateNo cs 0
+  pub last : Behind cs e 0 a
+  pub second : Behind cs e 1 b
+  pub third : Behind cs e 2 c
+
+-- A rule's children come on top of what waits, the first child next, then the second.
+pub push : (W W′ : List ℕ) (n e u a b c next top : ℕ) (cs : List Child) → length cs ≤ arityMost → Told cs e u a b c → Stored W W′ n a b c
+    → NextIs (length cs) (getD W n 0) u next → top ≡ n + length cs → waits W′ top next ≡ kids e cs ++ under W n
+unfolding stateNo
+push W W′ n e u a b c next top [] l t s x d = let z : top ≡ n = omega arith in rw z (pop W W′ n next (s .kept) (x .none refl))
+push W W′ n e u a b c next top (c₁ ∷ []) l t s x d =
+    let z : top ≡ suc n = omega arith in
+    let o = under-kept W W′ n (s .kept) in
+    let f : next ≡ statesMost * e + c₁ .state = x .some (omega arith) ∙ t .first in
+    rw z (cc)
+push W W′ n e u a b c next top (c₁ ∷ c₂ ∷ []) l t s x d =
+    let z : top ≡ suc (suc n) = omega arith in
+    let o = under-kept W W′ n (s .kept) in
+    let f : next ≡ statesMost * e + c₁ .state = x .some (omega arith) ∙ t .first in
+    let g : getD W′ (suc n) 0 ≡ statesMost * e + c₂ .state = s .one ∙ t .last 0 refl in
+    rw z (cc)
+push W W′ n e u a b c next top (c₁ ∷ c₂ ∷ c₃ ∷ []) l t s x d =
+    let z : top ≡ suc (suc (suc n)) = omega arith in
+    let o = under-kept W W′ n (s .kept) in
+    let f : next ≡ statesMost * e + c₁ .state = x .some (omega arith) ∙ t .first in
+    let g : getD W′ (suc (suc n)) 0 ≡ statesMost * e + c₂ .state = s .two ∙ t .second 0 refl in
+    let h : getD W′ (suc n) 0 ≡ statesMost * e + c₃ .state = s .one ∙ t .last 1 refl in
+    rw z (cc)
+push W W′ n e u a b c next top (c₁ ∷ c₂ ∷ c₃ ∷ c₄ ∷ []) l t s x d =
+    let z : top ≡ suc (suc (suc (suc n))) = omega arith in
+    let o = under-kept W W′ n (s .kept) in
+    let f : next ≡ statesMost * e + c₁ .state = x .some (omega arith) ∙ t .first in
+    let g : getD W′ (suc (suc (suc n))) 0 ≡ statesMost * e + c₂ .state = s .three ∙ t .third 0 refl in
+    let h : getD W′ (suc (suc n)) 0 ≡ statesMost * e + c₃ .state = s .two ∙ t .second 1 refl in
+    let i : getD W′ (suc n) 0 ≡ statesMost * e + c₄ .state = s .one ∙ t .last 2 refl in
+    rw z (cc)
+push W W′ n e u a b c next top (c₁ ∷ c₂ ∷ c₃ ∷ c₄ ∷ c₅ ∷ cs) l t s x d = absurd (omega arith)

@@ -1,0 +1,59 @@
+-- `write` meets its contract: 12 with the length of the three words, or the room filled with them. Assumes nothing.
+use mathlib.Core.Path.{refl}
+use Rattle.word_call.proofs.Ready.{ready-short, ready-fits}
+use borrow.Author.Needs.{needs}
+use Rattle.word_call.proofs.write.Statement.{statement}
+use Rattle.word_call.proofs.write.Tie as tie
+
+returns : tie.Need-returns
+returns c =
+    let after = c .before in
+    let before = after .before .before .before in
+    λ S M o k.
+    ready-short
+    (record { opened = o; counted = k; first = before .word-before .ensures .1 M o; last = after .word-after .ensures .1 M o })
+    (before .before .before .before .before .args .room .now)
+    (c .if1 .taken)
+    refl
+
+returns-2 : tie.Need-returns-2
+returns-2 c =
+    let last = c .before .before .before .before in
+    let tree = last .before .before .before .before in
+    let first = tree .before .before .before .before in
+    let fits = first .before .before in
+    let after = fits .before in
+    let before = after .before .before .before in
+    λ S M o k.
+    ready-fits
+    (record { opened = o; counted = k; first = before .word-before .ensures .1 M o; last = after .word-after .ensures .1 M o })
+    (before .before .before .before .before .args .room .now)
+    (first .put .last .1 .0)
+    (tree .put-tree .last .1 .1 .1 .0)
+    (last .put2 .last .1 .0)
+    (first .put .result)
+    (c .terms-in .result)
+    (fits .if1 .left)
+    (first .put .ensures .1)
+    (first .put .ensures .0)
+    (tree .put-tree .ensures)
+    (last .put2 .ensures .1)
+    (c .terms-in .ensures)
+    refl
+
+pub write-spec : {M : Type 1} → statement M
+write-spec =
+    tie.close
+    (tie.spec
+    (λ c κs. search needs)
+    (λ c κs. search needs)
+    (λ c. search needs)
+    (λ c. search needs)
+    returns
+    (λ c κs. search needs)
+    (λ c κs. search needs)
+    (λ c. search needs)
+    (λ c κs. search needs)
+    (λ c κs. search needs)
+    (λ c. search needs)
+    returns-2)
