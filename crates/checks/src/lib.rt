@@ -6,7 +6,7 @@ ghost use lib.ListN.{length};
 ghost use Rattle.machine.specs.Machine.{Table};
 ghost use Rattle.end_laws.specs.Ends.{stuck};
 ghost use Rattle.end_laws.specs.Companion.{least};
-ghost use Rattle.layout.specs.Layout.{numbersSize, Opened};
+ghost use Rattle.layout.specs.Layout.{numbersSize, Meant};
 ghost use Rattle.summary.specs.Codes.{K};
 ghost use Rattle.checks.specs.Checks.{placeOf, passesAt, leastAt};
 use crate::rules::least_rule;
@@ -56,8 +56,7 @@ fn least_state(number: u8, count: usize, marks: &[u8], left: &[u16], right: &[u1
 
 // The initial rule, if its last word can be pushed to the left of its state.
 fn start_fault(frames: &[u8], numbers: &[u64], left: &[u16]) -> Fault
-    ensures { λ r. ⌜ ((M : Table) → Opened (now (frames .entry)) (now (numbers .entry)) M
-        → placeOf r ≡ least (λ p. not (stuck (K (now (left .entry)) (M .start)) (M .after))) 1 0) ⌝ }
+    ensures { λ r. ⌜ Meant (now (frames .entry)) (now (numbers .entry)) (λ M. placeOf r ≡ least (λ p. not (stuck (K (now (left .entry)) (M .start)) (M .after))) 1 0) ⌝ }
 {
     let word = word_after(frames, numbers);
     if word.len() == 0 {
@@ -80,8 +79,7 @@ pub fn place_of_fault(
     right: &[u16],
 ) -> Fault
     requires { ⌜ length (now numbers) ≡ numbersSize ⌝ }
-    ensures { λ r. ⌜ ((M : Table) → Opened (now (frames .entry)) (now (numbers .entry)) M
-        → placeOf r ≡ leastAt number M (now (marks .entry)) (now (left .entry)) (now (right .entry))) ⌝ }
+    ensures { λ r. ⌜ Meant (now (frames .entry)) (now (numbers .entry)) (λ M. placeOf r ≡ leastAt number M (now (marks .entry)) (now (left .entry)) (now (right .entry))) ⌝ }
 {
     match number {
         13..=16 => least_state(number, states(numbers), marks, left, right),

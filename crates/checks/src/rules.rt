@@ -9,7 +9,7 @@ ghost use Rattle.machine.specs.Machine.{Child, Row, Table};
 ghost use Rattle.text.specs.Limits.{rowsMost};
 ghost use Rattle.end_laws.specs.Ends.{stuck, free};
 ghost use Rattle.end_laws.specs.Companion.{least, freeRow};
-ghost use Rattle.layout.specs.Layout.{numbersSize, Opened};
+ghost use Rattle.layout.specs.Layout.{numbersSize, Opened, Meant};
 ghost use Rattle.layout.specs.Leaves.{RowAt, Spot};
 ghost use Rattle.summary.specs.Codes.{decode, K, Firm};
 ghost use Rattle.checks.specs.Checks.{placeOf};
@@ -77,8 +77,7 @@ fn some_narrow(left: &[u16]) -> bool
 // The least rule with a word that can be pushed to the left of the state before it.
 pub fn least_rule(frames: &[u8], numbers: &[u64], left: &[u16]) -> Fault
     requires { ⌜ length (now numbers) ≡ numbersSize ⌝ }
-    ensures { λ r. ⌜ ((M : Table) → Opened (now (frames .entry)) (now (numbers .entry)) M
-        → placeOf r ≡ least (λ i. freeRow (K (now (left .entry))) (getElem? (M .rows) i)) (length (M .rows)) 0) ⌝ }
+    ensures { λ r. ⌜ Meant (now (frames .entry)) (now (numbers .entry)) (λ M. placeOf r ≡ least (λ i. freeRow (K (now (left .entry))) (getElem? (M .rows) i)) (length (M .rows)) 0) ⌝ }
 {
     if !some_narrow(left) {
         return Fault::Nowhere;

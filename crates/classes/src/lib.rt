@@ -11,7 +11,7 @@ ghost use lib.ListN.{length, getD};
 ghost use Rattle.words.specs.Told.{Told};
 ghost use Rattle.machine.specs.Machine.{Table};
 ghost use Rattle.text.specs.Limits.{statesMost, rowsMost};
-ghost use Rattle.layout.specs.Layout.{numbersSize, Opened};
+ghost use Rattle.layout.specs.Layout.{numbersSize, Opened, Meant};
 ghost use Rattle.layout.specs.Leaves.{RulesOf};
 ghost use Rattle.classes.specs.Classes.{TwinClasses, Numbered};
 ghost use Rattle.classes.specs.Rounds.{Alike, Begun, Sized, Leads, Picked, Low, Raised, Rounded, Put, Adopted};
@@ -73,7 +73,7 @@ fn pick(first: bool, frames: &[u8], numbers: &[u64], rep: &[u8], next: &[u8], q:
 fn round(first: bool, frames: &[u8], numbers: &[u64], n: usize, rep: &[u8], next: &mut [u8])
     requires { ⌜ Sized (now numbers) (now rep) (now next) × (n ≤ statesMost) × Low (now rep) ⌝ }
     ensures { λ _. ⌜ Raised n (now (rep .entry)) (now (next .exit)) ⌝ }
-    ensures { λ _. ⌜ ((M : Table) → Opened (now (frames .entry)) (now (numbers .entry)) M → n ≡ M .states
+    ensures { λ _. ⌜ Meant (now (frames .entry)) (now (numbers .entry)) (λ M. n ≡ M .states
         → Begun first M n (now (rep .entry)) → Rounded M n (now (rep .entry)) (now (next .exit))) ⌝ }
 {
     let mut q: usize = 0;
@@ -123,7 +123,7 @@ fn clear(rep: &mut [u8])
 fn rounds(frames: &[u8], numbers: &[u64], n: usize, rep: &mut [u8])
     requires { ⌜ (length (now numbers) ≡ numbersSize) × (n ≤ statesMost) × (length (now rep) ≡ statesMost) × ((q : ℕ) → getD (now rep) q 0 ≡ 0) ⌝ }
     ensures { λ _. ⌜ Numbered (now (rep .exit)) ⌝ }
-    ensures { λ _. ⌜ ((M : Table) → Opened (now (frames .entry)) (now (numbers .entry)) M → n ≡ M .states
+    ensures { λ _. ⌜ Meant (now (frames .entry)) (now (numbers .entry)) (λ M. n ≡ M .states
         → TwinClasses M (now (rep .exit))) ⌝ }
 {
     let mut next = [0u8; layout::STATES];
@@ -142,7 +142,7 @@ fn rounds(frames: &[u8], numbers: &[u64], n: usize, rep: &mut [u8])
 pub fn part(frames: &[u8], numbers: &[u64], rep: &mut [u8])
     requires { ⌜ length (now rep) ≡ statesMost ⌝ }
     ensures { λ _. ⌜ Numbered (now (rep .exit)) ⌝ }
-    ensures { λ _. ⌜ ((M : Table) → Opened (now (frames .entry)) (now (numbers .entry)) M → TwinClasses M (now (rep .exit))) ⌝ }
+    ensures { λ _. ⌜ Meant (now (frames .entry)) (now (numbers .entry)) (λ M. TwinClasses M (now (rep .exit))) ⌝ }
 {
     clear(rep);
     if numbers.len() != layout::NUMBERS {

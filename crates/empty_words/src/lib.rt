@@ -1,13 +1,12 @@
 // Which states of an opened table have the empty word: those with a rule that writes no letter itself and whose children all have it.
 // Nothing is asked of the lent numbers but how many they are: each contract speaks of every table that they mean.
 ghost use mathlib.Core.Path.{_≡_};
-ghost use mathlib.Core.List.{List};
 ghost use Prim.Native.Nat.{ℕ, _<_};
 ghost use lib.ListN.{length, getD};
 ghost use Rattle.words.specs.Told.{Told};
-ghost use Rattle.machine.specs.Machine.{Rule, Table};
+ghost use Rattle.machine.specs.Machine.{Rule};
 ghost use Rattle.text.specs.Limits.{statesMost};
-ghost use Rattle.layout.specs.Layout.{numbersSize, Opened};
+ghost use Rattle.layout.specs.Layout.{numbersSize, MeantBy};
 ghost use Rattle.layout.specs.Leaves.{Holds};
 ghost use Rattle.summary.specs.Codes.{K};
 ghost use Rattle.summary.specs.Grown.{Grown};
@@ -51,7 +50,7 @@ fn blank_rule(x: u64, values: &[u16]) -> bool
 // Whether state q has such a rule.
 fn has_blank(numbers: &[u64], q: usize, values: &[u16]) -> bool
     requires { ⌜ (length (now numbers) ≡ numbersSize) × (length (now values) ≡ statesMost) ⌝ }
-    ensures { λ t. ⌜ ((F : List ℕ) (M : Table) → Opened F (now (numbers .entry)) M → Told (BlankOf M (now (values .entry)) q) t) ⌝ }
+    ensures { λ t. ⌜ MeantBy (now (numbers .entry)) (λ M. Told (BlankOf M (now (values .entry)) q) t) ⌝ }
 {
     let rules = rules_in(numbers, q);
     let to = rules.to;
@@ -104,9 +103,8 @@ fn blank_states(numbers: &[u64], order: &[u8], n: usize, values: &mut [u16]) -> 
 pub fn blanks(numbers: &[u64], order: &[u8], n: usize, values: &mut [u16])
     requires { ⌜ (length (now numbers) ≡ numbersSize) × (length (now values) ≡ statesMost) × ((q : ℕ) → getD (now values) q 0 ≡ 0) ⌝ }
     ensures { λ _. ⌜ length (now (values .exit)) ≡ statesMost ⌝ }
-    ensures { λ _. ⌜ ((F : List ℕ) (M : Table) → Opened F (now (numbers .entry)) M → Blanks M (now (values .exit))) ⌝ }
-    ensures { λ _. ⌜ ((F : List ℕ) (M : Table) → Opened F (now (numbers .entry)) M
-        → AllListed M (now (order .entry)) n → EmptyTold M (K (now (values .exit)))) ⌝ }
+    ensures { λ _. ⌜ MeantBy (now (numbers .entry)) (λ M. Blanks M (now (values .exit))) ⌝ }
+    ensures { λ _. ⌜ MeantBy (now (numbers .entry)) (λ M. AllListed M (now (order .entry)) n → EmptyTold M (K (now (values .exit)))) ⌝ }
 {
     loop {
         let k = blank_states(numbers, order, n, values);

@@ -13,7 +13,7 @@ ghost use Rattle.machine.specs.Verdict as verdict;
 ghost use Rattle.text.specs.Reading.{readTable};
 ghost use Rattle.promises.specs.Word.{wordAnswer, wordInto};
 ghost use Rattle.promises.specs.Judgement.{JudgementAnswer};
-ghost use Rattle.layout.specs.Layout.{Opened};
+ghost use Rattle.layout.specs.Layout.{Meant};
 ghost use Rattle.verdict.specs.Judgement.{verdictOf};
 ghost use Rattle.why_no_word.specs.Answer as word;
 ghost use Rattle.form_call.specs.Formed as form;
@@ -183,8 +183,7 @@ pub extern "C" fn fadurinko_find(
     room: &mut [u8],
     answer: &mut [usize; ANSWER],
 ) -> u8
-    ensures { λ r. ⌜ ((M : Table) → Opened (now (frames .entry)) (now (numbers .entry)) M
-        → WordLinked (wordInto M (now (tree .entry)) (length (now (room .entry)))) (now (room .entry)) (now (room .exit)) r (now (answer .exit))) ⌝ }
+    ensures { λ r. ⌜ Meant (now (frames .entry)) (now (numbers .entry)) (λ M. WordLinked (wordInto M (now (tree .entry)) (length (now (room .entry)))) (now (room .entry)) (now (room .exit)) r (now (answer .exit))) ⌝ }
 {
     let found = word_call::find(frames, numbers, tree, plan, room);
     tell_word(found, answer)
@@ -197,8 +196,7 @@ pub extern "C" fn fadurinko_judge_opened(
     numbers: &[u64; layout::NUMBERS],
     answer: &mut [usize; ANSWER],
 ) -> u8
-    ensures { λ r. ⌜ ((M : Table) → Opened (now (frames .entry)) (now (numbers .entry)) M
-        → JudgedLinked (λ v. verdict.Judged M v) r (now (answer .exit))) ⌝ }
+    ensures { λ r. ⌜ Meant (now (frames .entry)) (now (numbers .entry)) (λ M. JudgedLinked (λ v. verdict.Judged M v) r (now (answer .exit))) ⌝ }
 {
     let judgement = verdict::judge_opened(frames, numbers);
     tell_judgement(judgement, answer)

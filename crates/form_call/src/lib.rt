@@ -6,7 +6,7 @@ ghost use mathlib.Core.Path.{_≡_};
 ghost use lib.ListN.{length};
 ghost use Rattle.machine.specs.Machine.{Table};
 ghost use Rattle.machine.specs.Earliest.{Earliest};
-ghost use Rattle.layout.specs.Layout.{Opened, framesSize, numbersSize};
+ghost use Rattle.layout.specs.Layout.{framesSize, numbersSize, Meant};
 ghost use Rattle.promises.specs.Judgement.{JudgementAnswer};
 ghost use Rattle.verdict.specs.Judgement.{verdictOf};
 ghost use Rattle.form_call.specs.Formed.{Judges, Answers, FormInto, textRefusal, lateRefusal};
@@ -62,7 +62,7 @@ fn late_refusal(judgement: Judgement) -> Formed
 // The form of an opened earliest table, written to the front of the room; 12 with the length
 // needed where the room is too short.
 pub fn form_opened(frames: &[u8], numbers: &[u64], room: &mut [u8]) -> Formed
-    ensures { λ r. ⌜ ((M : Table) → Opened (now (frames .entry)) (now (numbers .entry)) M → Earliest M
+    ensures { λ r. ⌜ Meant (now (frames .entry)) (now (numbers .entry)) (λ M. Earliest M
         → FormInto M (now (room .entry)) (now (room .exit)) r) ⌝ }
 {
     let mut rep = [0u8; layout::STATES];

@@ -138,3 +138,11 @@ pub record Opened (F I : List ℕ) (M : Table) : Type 0 where
   pub firsts : Firsts I M
   pub listed : Listed I M
   pub grid : Grid I M
+
+-- P holds of every table that the bytes F and the numbers I mean.
+abbrev pub Meant : List ℕ → List ℕ → (Table → Type 0) → Type 0
+Meant F I P = (M : Table) → Opened F I M → P M
+
+-- P holds of every table that the numbers I mean, with whatever bytes.
+abbrev pub MeantBy : List ℕ → (Table → Type 0) → Type 0
+MeantBy I P = (F : List ℕ) → Meant F I P

@@ -11,7 +11,7 @@ use Rattle.machine.specs.Machine.{Child, Rule, Row, Table, Each, find}
 use Rattle.machine.specs.Form.{rowsOf}
 use Rattle.text.specs.Limits.{statesMost, lettersMost, arityMost, rowsMost}
 use Rattle.text.specs.Writing.{textOf, childrenText}
-use Rattle.layout.specs.Layout.{framesSize, headFrames, ruleText, ruleLetters, entryOf}
+use Rattle.layout.specs.Layout.{framesSize, Opened, headFrames, ruleText, ruleLetters, entryOf}
 use Rattle.layout.specs.declared.whole.Laid.{Laid}
 use Rattle.layout.specs.declared.RuleOf.{RuleOf}
 use Rattle.layout.specs.declared.RuleOf.the-variants as ruled
@@ -32,6 +32,10 @@ pub record RuleAt (F : List ℕ) (p : ℕ) (r : Rule) : Type 0 where
 -- The row with number i.
 abbrev pub RowAt : Table → ℕ → Row → Type 0
 RowAt M i r = getElem? (M .rows) i ≡ some r
+
+-- P holds of row number i of every table that the numbers I mean.
+abbrev pub RowMeant : List ℕ → ℕ → (Row → Type 0) → Type 0
+RowMeant I i P = (F : List ℕ) (M : Table) (r : Row) → Opened F I M → RowAt M i r → P r
 
 -- A rule with the state and the symbol that it is for.
 abbrev pub rowOf : ℕ → ℕ → Rule → Row

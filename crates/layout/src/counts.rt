@@ -5,7 +5,7 @@ ghost use Prim.Native.Nat.{ℕ, _<_, _≤_};
 ghost use lib.ListN.{length, getD};
 ghost use Rattle.text.specs.Limits.{symbolsMost, statesMost, rowsMost};
 ghost use Rattle.machine.specs.Machine.{Table};
-ghost use Rattle.layout.specs.Layout.{Opened};
+ghost use Rattle.layout.specs.Layout.{Opened, Meant, MeantBy};
 use crate::RULES;
 use crate::STATES;
 use crate::SYMBOLS;
@@ -32,7 +32,7 @@ fn place(numbers: &[u64], at: usize) -> usize
 // The number of symbols.
 pub fn symbols(numbers: &[u64]) -> usize
     ensures { λ r. ⌜ r ≤ symbolsMost ⌝ }
-    ensures { λ r. ⌜ ((F : List ℕ) (M : Table) → Opened F (now (numbers .entry)) M → r ≡ length (M .arities)) ⌝ }
+    ensures { λ r. ⌜ MeantBy (now (numbers .entry)) (λ M. r ≡ length (M .arities)) ⌝ }
 {
     at_most(number(numbers, 0), SYMBOLS)
 }
@@ -40,7 +40,7 @@ pub fn symbols(numbers: &[u64]) -> usize
 // The number of states.
 pub fn states(numbers: &[u64]) -> usize
     ensures { λ r. ⌜ r ≤ statesMost ⌝ }
-    ensures { λ r. ⌜ ((F : List ℕ) (M : Table) → Opened F (now (numbers .entry)) M → r ≡ M .states) ⌝ }
+    ensures { λ r. ⌜ MeantBy (now (numbers .entry)) (λ M. r ≡ M .states) ⌝ }
 {
     at_most(number(numbers, 1), STATES)
 }
@@ -48,7 +48,7 @@ pub fn states(numbers: &[u64]) -> usize
 // The initial state.
 pub fn start(numbers: &[u64]) -> usize
     ensures { λ r. ⌜ r < statesMost ⌝ }
-    ensures { λ r. ⌜ ((F : List ℕ) (M : Table) → Opened F (now (numbers .entry)) M → r ≡ M .start) ⌝ }
+    ensures { λ r. ⌜ MeantBy (now (numbers .entry)) (λ M. r ≡ M .start) ⌝ }
 {
     (number(numbers, 2) % 64) as usize
 }
@@ -56,7 +56,7 @@ pub fn start(numbers: &[u64]) -> usize
 // The number of rules.
 pub fn rules(numbers: &[u64]) -> usize
     ensures { λ r. ⌜ r ≤ rowsMost ⌝ }
-    ensures { λ r. ⌜ ((F : List ℕ) (M : Table) → Opened F (now (numbers .entry)) M → r ≡ length (M .rows)) ⌝ }
+    ensures { λ r. ⌜ MeantBy (now (numbers .entry)) (λ M. r ≡ length (M .rows)) ⌝ }
 {
     at_most(number(numbers, 3), RULES)
 }
@@ -64,7 +64,7 @@ pub fn rules(numbers: &[u64]) -> usize
 // The word before the initial state.
 pub fn word_before<'a>(frames: &'a [u8], numbers: &[u64]) -> &'a [u8]
     ensures { λ r. ⌜ length (now r) < 256 ⌝ }
-    ensures { λ r. ⌜ ((M : Table) → Opened (now (frames .entry)) (now (numbers .entry)) M → now r ≡ M .before) ⌝ }
+    ensures { λ r. ⌜ Meant (now (frames .entry)) (now (numbers .entry)) (λ M. now r ≡ M .before) ⌝ }
 {
     stretch(frames, place(numbers, 4))
 }
@@ -72,7 +72,7 @@ pub fn word_before<'a>(frames: &'a [u8], numbers: &[u64]) -> &'a [u8]
 // The word after it.
 pub fn word_after<'a>(frames: &'a [u8], numbers: &[u64]) -> &'a [u8]
     ensures { λ r. ⌜ length (now r) < 256 ⌝ }
-    ensures { λ r. ⌜ ((M : Table) → Opened (now (frames .entry)) (now (numbers .entry)) M → now r ≡ M .after) ⌝ }
+    ensures { λ r. ⌜ Meant (now (frames .entry)) (now (numbers .entry)) (λ M. now r ≡ M .after) ⌝ }
 {
     stretch(frames, place(numbers, 5))
 }

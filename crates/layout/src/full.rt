@@ -1,19 +1,17 @@
 // Reading for states and symbols that the table has, with no test: the numbers are as many as an opened table's.
 ghost use mathlib.Core.Path.{_≡_};
-ghost use mathlib.Core.List.{List};
-ghost use Prim.Native.Nat.{ℕ, _<_, _≤_};
+ghost use Prim.Native.Nat.{_<_, _≤_};
 ghost use lib.ListN.{length};
 ghost use Rattle.text.specs.Limits.{symbolsMost, statesMost, rowsMost};
-ghost use Rattle.machine.specs.Machine.{Row, Table};
-ghost use Rattle.layout.specs.Layout.{numbersSize, Opened};
-ghost use Rattle.layout.specs.Leaves.{RowAt, Kept, RulesOf};
+ghost use Rattle.layout.specs.Layout.{numbersSize, MeantBy};
+ghost use Rattle.layout.specs.Leaves.{Kept, RulesOf, RowMeant};
 use crate::rule::Rules;
 use crate::rule::first_of;
 
 // What is kept for a state and a symbol of the table.
 pub fn kept_full(numbers: &[u64], q: usize, f: usize) -> u64
     requires { ⌜ (length (now numbers) ≡ numbersSize) × (q < statesMost) × (f < symbolsMost) ⌝ }
-    ensures { λ x. ⌜ ((F : List ℕ) (M : Table) → Opened F (now (numbers .entry)) M → q < M .states → Kept M q f x) ⌝ }
+    ensures { λ x. ⌜ MeantBy (now (numbers .entry)) (λ M. q < M .states → Kept M q f x) ⌝ }
 {
     numbers[592 + (q * 64 + f)]
 }
@@ -22,7 +20,7 @@ pub fn kept_full(numbers: &[u64], q: usize, f: usize) -> u64
 pub fn symbol_full(numbers: &[u64], i: usize) -> usize
     requires { ⌜ (length (now numbers) ≡ numbersSize) × (i < rowsMost) ⌝ }
     ensures { λ f. ⌜ f < symbolsMost ⌝ }
-    ensures { λ f. ⌜ ((F : List ℕ) (M : Table) (r : Row) → Opened F (now (numbers .entry)) M → RowAt M i r → f ≡ r .symbol) ⌝ }
+    ensures { λ f. ⌜ RowMeant (now (numbers .entry)) i (λ r. f ≡ r .symbol) ⌝ }
 {
     (numbers[80 + i] / 131072 % 64) as usize
 }
@@ -31,7 +29,7 @@ pub fn symbol_full(numbers: &[u64], i: usize) -> usize
 pub fn rules_here(numbers: &[u64], q: usize) -> Rules
     requires { ⌜ q < statesMost ⌝ }
     ensures { λ r. ⌜ (r .to ≤ rowsMost) × (r .from ≤ rowsMost) ⌝ }
-    ensures { λ r. ⌜ ((F : List ℕ) (M : Table) → Opened F (now (numbers .entry)) M → q < M .states → RulesOf M q (r .from) (r .to)) ⌝ }
+    ensures { λ r. ⌜ MeantBy (now (numbers .entry)) (λ M. q < M .states → RulesOf M q (r .from) (r .to)) ⌝ }
 {
     Rules {
         from: first_of(numbers, q),

@@ -1,11 +1,10 @@
 // What an opened table keeps for a state and a symbol: one number that tells the rule, 0 if there is none.
 ghost use mathlib.Core.Path.{_≡_};
-ghost use mathlib.Core.List.{List};
 ghost use Prim.Native.Nat.{ℕ, suc, _+_, _<_};
 ghost use lib.ListN.{length};
 ghost use Rattle.text.specs.Limits.{symbolsMost, statesMost, rowsMost};
-ghost use Rattle.machine.specs.Machine.{Rule, Table};
-ghost use Rattle.layout.specs.Layout.{Opened, ruleLetters};
+ghost use Rattle.machine.specs.Machine.{Rule};
+ghost use Rattle.layout.specs.Layout.{ruleLetters, MeantBy};
 ghost use Rattle.layout.specs.Leaves.{Holds, Kept, stateNo};
 use crate::SYMBOLS;
 use crate::counts::states;
@@ -14,14 +13,14 @@ use crate::number;
 // What is kept for a state and a symbol of the table.
 pub fn kept_here(numbers: &[u64], q: usize, f: usize) -> u64
     requires { ⌜ (q < statesMost) × (f < symbolsMost) ⌝ }
-    ensures { λ x. ⌜ ((F : List ℕ) (M : Table) → Opened F (now (numbers .entry)) M → q < M .states → Kept M q f x) ⌝ }
+    ensures { λ x. ⌜ MeantBy (now (numbers .entry)) (λ M. q < M .states → Kept M q f x) ⌝ }
 {
     number(numbers, 592 + (q * 64 + f))
 }
 
 // What is kept for any state and any symbol.
 pub fn kept_for(numbers: &[u64], q: usize, f: usize) -> u64
-    ensures { λ x. ⌜ ((F : List ℕ) (M : Table) → Opened F (now (numbers .entry)) M → Kept M q f x) ⌝ }
+    ensures { λ x. ⌜ MeantBy (now (numbers .entry)) (λ M. Kept M q f x) ⌝ }
 {
     if states(numbers) <= q {
         return 0;

@@ -1,11 +1,9 @@
 // The opened table's leaves: everything above reads an opened table through these functions.
 // None asks anything of the lent bytes and numbers: reads are clamped, and each contract speaks of every table that they mean.
 ghost use mathlib.Core.Path.{_≡_};
-ghost use mathlib.Core.List.{List};
-ghost use Prim.Native.Nat.{ℕ, _+_, _<_, _≤_};
+ghost use Prim.Native.Nat.{_+_, _<_, _≤_};
 ghost use lib.ListN.{length, getD};
-ghost use Rattle.machine.specs.Machine.{Table};
-ghost use Rattle.layout.specs.Layout.{Opened};
+ghost use Rattle.layout.specs.Layout.{MeantBy};
 ghost use Rattle.layout.specs.Leaves.{wordAt, behindAt, Sought};
 pub use copy::put_word;
 pub use copy::spot_behind;
@@ -136,7 +134,7 @@ pub fn behind(frames: &[u8], at: usize) -> usize
 
 // The rule of state q and symbol f: its number, or that there is none.
 pub fn rule_number(numbers: &[u64], q: usize, f: usize) -> RuleOf
-    ensures { λ r. ⌜ ((F : List ℕ) (M : Table) → Opened F (now (numbers .entry)) M → Sought M q f r) ⌝ }
+    ensures { λ r. ⌜ MeantBy (now (numbers .entry)) (λ M. Sought M q f r) ⌝ }
 {
     let x = kept_for(numbers, q, f);
     if x == 0 {

@@ -4,8 +4,8 @@ ghost use mathlib.Core.List.{List};
 ghost use Prim.Native.Nat.{ℕ, _<_, _≤_};
 ghost use Rattle.text.specs.Limits.{symbolsMost, statesMost, rowsMost};
 ghost use Rattle.machine.specs.Machine.{Row, Table};
-ghost use Rattle.layout.specs.Layout.{Opened, rowsBefore};
-ghost use Rattle.layout.specs.Leaves.{RowAt, Holds, RulesOf, Spot};
+ghost use Rattle.layout.specs.Layout.{Opened, rowsBefore, MeantBy};
+ghost use Rattle.layout.specs.Leaves.{RowAt, Holds, RulesOf, Spot, RowMeant};
 use crate::counts::states;
 use crate::number;
 
@@ -18,7 +18,7 @@ pub struct Rules {
 // What is kept for the state and the symbol of rule number i.
 pub fn kept_of(numbers: &[u64], i: usize) -> u64
     requires { ⌜ i < rowsMost ⌝ }
-    ensures { λ x. ⌜ ((F : List ℕ) (M : Table) (r : Row) → Opened F (now (numbers .entry)) M → RowAt M i r → Holds x i (r .rule)) ⌝ }
+    ensures { λ x. ⌜ RowMeant (now (numbers .entry)) i (λ r. Holds x i (r .rule)) ⌝ }
 {
     let key = number(numbers, 80 + i) / 131072 % 4096;
     number(numbers, 592 + key as usize)
@@ -28,7 +28,7 @@ pub fn kept_of(numbers: &[u64], i: usize) -> u64
 pub fn state_of(numbers: &[u64], i: usize) -> usize
     requires { ⌜ i < rowsMost ⌝ }
     ensures { λ q. ⌜ q < statesMost ⌝ }
-    ensures { λ q. ⌜ ((F : List ℕ) (M : Table) (r : Row) → Opened F (now (numbers .entry)) M → RowAt M i r → q ≡ r .state) ⌝ }
+    ensures { λ q. ⌜ RowMeant (now (numbers .entry)) i (λ r. q ≡ r .state) ⌝ }
 {
     (number(numbers, 80 + i) / 8388608 % 64) as usize
 }
@@ -37,7 +37,7 @@ pub fn state_of(numbers: &[u64], i: usize) -> usize
 pub fn symbol_of(numbers: &[u64], i: usize) -> usize
     requires { ⌜ i < rowsMost ⌝ }
     ensures { λ f. ⌜ f < symbolsMost ⌝ }
-    ensures { λ f. ⌜ ((F : List ℕ) (M : Table) (r : Row) → Opened F (now (numbers .entry)) M → RowAt M i r → f ≡ r .symbol) ⌝ }
+    ensures { λ f. ⌜ RowMeant (now (numbers .entry)) i (λ r. f ≡ r .symbol) ⌝ }
 {
     (number(numbers, 80 + i) / 131072 % 64) as usize
 }
@@ -55,7 +55,7 @@ pub fn spot_of(numbers: &[u64], i: usize) -> usize
 pub fn first_of(numbers: &[u64], q: usize) -> usize
     requires { ⌜ q ≤ statesMost ⌝ }
     ensures { λ n. ⌜ n ≤ rowsMost ⌝ }
-    ensures { λ n. ⌜ ((F : List ℕ) (M : Table) → Opened F (now (numbers .entry)) M → q ≤ M .states → n ≡ rowsBefore q (M .rows)) ⌝ }
+    ensures { λ n. ⌜ MeantBy (now (numbers .entry)) (λ M. q ≤ M .states → n ≡ rowsBefore q (M .rows)) ⌝ }
 {
     let n = number(numbers, 8 + q);
     if n < 512 { n as usize } else { 512 }
@@ -64,7 +64,7 @@ pub fn first_of(numbers: &[u64], q: usize) -> usize
 // The rules of state q: none if it is not one of the table.
 pub fn rules_of(numbers: &[u64], q: usize) -> Rules
     ensures { λ r. ⌜ (r .to ≤ rowsMost) × (r .from ≤ rowsMost) ⌝ }
-    ensures { λ r. ⌜ ((F : List ℕ) (M : Table) → Opened F (now (numbers .entry)) M → RulesOf M q (r .from) (r .to)) ⌝ }
+    ensures { λ r. ⌜ MeantBy (now (numbers .entry)) (λ M. RulesOf M q (r .from) (r .to)) ⌝ }
 {
     if states(numbers) <= q {
         return Rules { from: 0, to: 0 };

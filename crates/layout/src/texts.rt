@@ -7,8 +7,8 @@ ghost use lib.Seq.{slice};
 ghost use Rattle.text.specs.Limits.{rowsMost};
 ghost use Rattle.machine.specs.Machine.{Row, Table};
 ghost use Rattle.text.specs.Writing.{rowLines};
-ghost use Rattle.layout.specs.Layout.{Opened, ruleText, rowFrames, headFrames};
-ghost use Rattle.layout.specs.Leaves.{RowAt};
+ghost use Rattle.layout.specs.Layout.{Opened, ruleText, rowFrames, headFrames, MeantBy};
+ghost use Rattle.layout.specs.Leaves.{RowAt, RowMeant};
 use crate::kept::kids_in;
 use crate::kept::letters_in;
 use crate::number;
@@ -19,7 +19,7 @@ use crate::rule::spot_of;
 fn text_length(numbers: &[u64], i: usize) -> usize
     requires { ⌜ i < rowsMost ⌝ }
     ensures { λ n. ⌜ n ≤ 270 ⌝ }
-    ensures { λ n. ⌜ ((F : List ℕ) (M : Table) (r : Row) → Opened F (now (numbers .entry)) M → RowAt M i r → n ≡ length (ruleText (r .rule))) ⌝ }
+    ensures { λ n. ⌜ RowMeant (now (numbers .entry)) i (λ r. n ≡ length (ruleText (r .rule))) ⌝ }
 {
     let kept = kept_of(numbers, i);
     1 + 2 * kids_in(kept) + letters_in(kept)
@@ -60,7 +60,7 @@ fn without(a: usize, b: usize) -> usize
 pub fn lines_length(numbers: &[u64], from: usize, to: usize) -> usize
     requires { ⌜ to ≤ rowsMost ⌝ }
     ensures { λ n. ⌜ n ≤ 40000 ⌝ }
-    ensures { λ n. ⌜ ((F : List ℕ) (M : Table) → Opened F (now (numbers .entry)) M → from ≤ to → to ≤ length (M .rows)
+    ensures { λ n. ⌜ MeantBy (now (numbers .entry)) (λ M. from ≤ to → to ≤ length (M .rows)
         → n ≡ length (rowLines (slice from to (M .rows)))) ⌝ }
 {
     if to <= from {

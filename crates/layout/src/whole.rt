@@ -5,8 +5,8 @@ ghost use Prim.Native.Nat.{ℕ, _<_, _≤_};
 ghost use lib.ListN.{length};
 ghost use Rattle.text.specs.Limits.{statesMost, rowsMost};
 ghost use Rattle.machine.specs.Machine.{Row, Table};
-ghost use Rattle.layout.specs.Layout.{numbersSize, Opened, rowsBefore};
-ghost use Rattle.layout.specs.Leaves.{RowAt, Holds, RulesOf, LaidOut};
+ghost use Rattle.layout.specs.Layout.{numbersSize, Opened, rowsBefore, MeantBy};
+ghost use Rattle.layout.specs.Leaves.{RowAt, Holds, RulesOf, LaidOut, RowMeant};
 use crate::kept::kids_in;
 use crate::rule::Rules;
 
@@ -19,7 +19,7 @@ pub struct Laid {
 // What is kept for the state and the symbol of rule number i.
 pub fn kept_at(numbers: &[u64], i: usize) -> u64
     requires { ⌜ (length (now numbers) ≡ numbersSize) × (i < rowsMost) ⌝ }
-    ensures { λ x. ⌜ ((F : List ℕ) (M : Table) (r : Row) → Opened F (now (numbers .entry)) M → RowAt M i r → Holds x i (r .rule)) ⌝ }
+    ensures { λ x. ⌜ RowMeant (now (numbers .entry)) i (λ r. Holds x i (r .rule)) ⌝ }
 {
     let key = numbers[80 + i] / 131072 % 4096;
     numbers[592 + key as usize]
@@ -40,7 +40,7 @@ pub fn laid_at(numbers: &[u64], i: usize) -> Laid
 fn first_in_all(numbers: &[u64], q: usize) -> usize
     requires { ⌜ (length (now numbers) ≡ numbersSize) × (q ≤ statesMost) ⌝ }
     ensures { λ n. ⌜ n ≤ rowsMost ⌝ }
-    ensures { λ n. ⌜ ((F : List ℕ) (M : Table) → Opened F (now (numbers .entry)) M → q ≤ M .states → n ≡ rowsBefore q (M .rows)) ⌝ }
+    ensures { λ n. ⌜ MeantBy (now (numbers .entry)) (λ M. q ≤ M .states → n ≡ rowsBefore q (M .rows)) ⌝ }
 {
     let n = numbers[8 + q];
     if n < 512 { n as usize } else { 512 }
@@ -50,7 +50,7 @@ fn first_in_all(numbers: &[u64], q: usize) -> usize
 pub fn rules_in(numbers: &[u64], q: usize) -> Rules
     requires { ⌜ length (now numbers) ≡ numbersSize ⌝ }
     ensures { λ r. ⌜ (r .to ≤ rowsMost) × (r .from ≤ rowsMost) ⌝ }
-    ensures { λ r. ⌜ ((F : List ℕ) (M : Table) → Opened F (now (numbers .entry)) M → RulesOf M q (r .from) (r .to)) ⌝ }
+    ensures { λ r. ⌜ MeantBy (now (numbers .entry)) (λ M. RulesOf M q (r .from) (r .to)) ⌝ }
 {
     if 64 <= q {
         return Rules { from: 0, to: 0 };

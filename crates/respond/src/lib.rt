@@ -17,7 +17,7 @@ ghost use Rattle.machine.specs.Machine.{Table};
 ghost use Rattle.text.specs.Lines.{bytesOf};
 ghost use Rattle.trees.specs.Shape.{treeMost};
 ghost use Rattle.promises.specs.Word.{wordInto};
-ghost use Rattle.layout.specs.Layout.{Opened};
+ghost use Rattle.layout.specs.Layout.{Meant};
 ghost use Rattle.table.specs.Opening.{Opens};
 ghost use Rattle.hexline.specs.SoFar.{Held};
 ghost use Rattle.respond.specs.Response.{Responds, Answered};
@@ -52,8 +52,7 @@ fn to_tree(
     out: &mut [u8],
     used: usize,
 ) -> Said
-    ensures { λ r. ⌜ ((M : Table) → Opened (now (frames .entry)) (now (numbers .entry)) M
-        → Responds (wordInto M (now (tree .entry)) (length (now (room .entry)))) (now (out .entry)) used (now (out .exit)) r) ⌝ }
+    ensures { λ r. ⌜ Meant (now (frames .entry)) (now (numbers .entry)) (λ M. Responds (wordInto M (now (tree .entry)) (length (now (room .entry)))) (now (out .entry)) used (now (out .exit)) r) ⌝ }
 {
     match word_call::find(frames, numbers, tree, plan, room) {
         WordAnswer::Found(found) => {

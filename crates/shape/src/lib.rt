@@ -7,7 +7,7 @@ ghost use lib.ListN.{length, drop};
 ghost use Rattle.machine.specs.Machine.{Table};
 ghost use Rattle.words.specs.Reply.{noAt};
 ghost use Rattle.trees.specs.Shape.{treeAt, readTree};
-ghost use Rattle.layout.specs.Layout.{Opened};
+ghost use Rattle.layout.specs.Layout.{Opened, Meant};
 ghost use Rattle.shape.specs.Shaped.{Shaped, Inside, Checked};
 
 // The place behind a tree, or the refusal.
@@ -54,7 +54,7 @@ fn tree_at(levels: usize, frames: &[u8], symbols: usize, tree: &[u8], at: usize)
 
 // Whether tree bytes are one tree of at most 64 levels over the symbols, or the refusal 6, 7, 8, 10 or 11.
 pub fn check(frames: &[u8], numbers: &[u64], tree: &[u8]) -> Shape
-    ensures { λ r. ⌜ ((M : Table) → Opened (now (frames .entry)) (now (numbers .entry)) M → Checked (readTree (M .arities) (now (tree .entry))) r) ⌝ }
+    ensures { λ r. ⌜ Meant (now (frames .entry)) (now (numbers .entry)) (λ M. Checked (readTree (M .arities) (now (tree .entry))) r) ⌝ }
 {
     if tree.len() == 0 || layout::TREE < tree.len() {
         return refuse(6, 0);

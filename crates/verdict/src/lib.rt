@@ -2,10 +2,9 @@
 // Nothing is asked of the lent bytes and numbers: reads are clamped, and each contract speaks of every table that they mean.
 ghost use mathlib.Core.Path.{_≡_};
 ghost use lib.ListN.{length};
-ghost use Rattle.machine.specs.Machine.{Table};
 ghost use Rattle.machine.specs.Verdict.{Judged};
 ghost use Rattle.end_laws.specs.Companion.{judgeBy};
-ghost use Rattle.layout.specs.Layout.{numbersSize, Opened};
+ghost use Rattle.layout.specs.Layout.{numbersSize, Meant};
 ghost use Rattle.checks.specs.Checks.{allChecks};
 ghost use Rattle.verdict.specs.Judgement.{verdictOf};
 use checks::Fault;
@@ -27,8 +26,7 @@ fn first_fault(
     right: &[u16],
 ) -> Judgement
     requires { ⌜ length (now numbers) ≡ numbersSize ⌝ }
-    ensures { λ r. ⌜ ((M : Table) → Opened (now (frames .entry)) (now (numbers .entry)) M
-        → verdictOf r ≡ judgeBy (allChecks M (now (marks .entry)) (now (left .entry)) (now (right .entry)))) ⌝ }
+    ensures { λ r. ⌜ Meant (now (frames .entry)) (now (numbers .entry)) (λ M. verdictOf r ≡ judgeBy (allChecks M (now (marks .entry)) (now (left .entry)) (now (right .entry)))) ⌝ }
 {
     let mut number: u8 = 13;
     while number <= 18 {
@@ -44,7 +42,7 @@ fn first_fault(
 // The verdict of an opened table: earliest, or the first of 13 to 18 with its least place.
 // No table has another number of numbers. The summaries are found state by state, from those that are met last on: children mostly come before their parents.
 pub fn judge_opened(frames: &[u8], numbers: &[u64]) -> Judgement
-    ensures { λ r. ⌜ ((M : Table) → Opened (now (frames .entry)) (now (numbers .entry)) M → Judged M (verdictOf r)) ⌝ }
+    ensures { λ r. ⌜ Meant (now (frames .entry)) (now (numbers .entry)) (λ M. Judged M (verdictOf r)) ⌝ }
 {
     if numbers.len() != layout::NUMBERS {
         return Judgement::Earliest;

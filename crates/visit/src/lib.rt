@@ -1,12 +1,12 @@
 // The walk over the states of an opened table in the order of first visit: each class of states that is met for the first time gets the next free number.
 // The form walks by classes of states with the same words, the judgement with each state as a class of its own.
 ghost use mathlib.Core.Path.{_≡_};
-ghost use mathlib.Core.List.{List, [], _∷_};
+ghost use mathlib.Core.List.{[], _∷_};
 ghost use Prim.Native.Nat.{ℕ, _<_, _≤_};
 ghost use lib.ListN.{length, getD};
-ghost use Rattle.machine.specs.Machine.{Rule, Table};
+ghost use Rattle.machine.specs.Machine.{Rule};
 ghost use Rattle.text.specs.Limits.{statesMost};
-ghost use Rattle.layout.specs.Layout.{Opened};
+ghost use Rattle.layout.specs.Layout.{MeantBy};
 ghost use Rattle.layout.specs.Leaves.{Holds};
 ghost use Rattle.form_laws.specs.Listed.{kids};
 ghost use Rattle.visit.specs.Visiting.{Room, Met, statesOf, Visits};
@@ -67,8 +67,7 @@ fn meet_rules(
 ) -> usize
     requires { ⌜ (count ≤ statesMost) × Room (now rep) (now order) (now known) ⌝ }
     ensures { λ n. ⌜ n ≤ statesMost ⌝ }
-    ensures { λ n. ⌜ ((F : List ℕ) (M : Table) → Opened F (now (numbers .entry)) M
-        → Met (now (rep .entry)) (kids M q) (now (order .entry)) (now (known .entry)) count (now (order .exit)) (now (known .exit)) n) ⌝ }
+    ensures { λ n. ⌜ MeantBy (now (numbers .entry)) (λ M. Met (now (rep .entry)) (kids M q) (now (order .entry)) (now (known .entry)) count (now (order .exit)) (now (known .exit)) n) ⌝ }
 {
     let rules = rules_of(numbers, q);
     let to = rules.to;
@@ -115,7 +114,7 @@ fn make_own(rep: &mut [u8])
 pub fn reach(numbers: &[u64], order: &mut [u8], marks: &mut [u8]) -> usize
     requires { ⌜ (length (now order) ≡ statesMost) × (length (now marks) ≡ statesMost) × ((q : ℕ) → getD (now marks) q 0 ≡ 0) ⌝ }
     ensures { λ n. ⌜ n ≤ statesMost ⌝ }
-    ensures { λ n. ⌜ ((F : List ℕ) (M : Table) → Opened F (now (numbers .entry)) M → Reaches M (now (marks .exit)) (now (order .exit)) n) ⌝ }
+    ensures { λ n. ⌜ MeantBy (now (numbers .entry)) (λ M. Reaches M (now (marks .exit)) (now (order .exit)) n) ⌝ }
 {
     let mut own = [0u8; STATES];
     make_own(&mut own);

@@ -5,8 +5,7 @@ use walk::Walk;
 use words::No;
 ghost use mathlib.Core.Path.{_≡_};
 ghost use Rattle.words.specs.Reply.{refused};
-ghost use Rattle.machine.specs.Machine.{Table};
-ghost use Rattle.layout.specs.Layout.{Opened};
+ghost use Rattle.layout.specs.Layout.{Meant};
 ghost use Rattle.walk.specs.Walked.{Wordless};
 ghost use Rattle.promises.specs.Word.{wordOn};
 ghost use Rattle.why_no_word.specs.Answer.{placeOf};
@@ -36,7 +35,7 @@ fn place_of(walk: Walk) -> usize
 // Why there is no word, where there is none: 6, 7, 8, 10, 11 for the tree's shape, else 9 at the
 // first position without a rule.
 pub fn why(frames: &[u8], numbers: &[u64], tree: &[u8]) -> No
-    ensures { λ r. ⌜ ((M : Table) → Opened (now (frames .entry)) (now (numbers .entry)) M → Wordless M (now (tree .entry)) (M .start)
+    ensures { λ r. ⌜ Meant (now (frames .entry)) (now (numbers .entry)) (λ M. Wordless M (now (tree .entry)) (M .start)
         → wordOn M (now (tree .entry)) ≡ refused (r .number) (r .place)) ⌝ }
 {
     match shape::check(frames, numbers, tree) {

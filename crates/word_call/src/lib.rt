@@ -11,7 +11,7 @@ ghost use lib.ListN.{length, take, drop};
 ghost use Rattle.words.specs.Word.{Word};
 ghost use Rattle.machine.specs.Machine.{Tree, Table};
 ghost use Rattle.trees.specs.Shape.{depthMost};
-ghost use Rattle.layout.specs.Layout.{Opened};
+ghost use Rattle.layout.specs.Layout.{Opened, Meant};
 ghost use Rattle.promises.specs.Word.{wordInto};
 ghost use Rattle.why_no_word.specs.Answer.{Answers};
 ghost use Rattle.measure.specs.Tallied.{Counted};
@@ -109,8 +109,7 @@ pub fn find(
     plan: &mut [u32; layout::TREE],
     room: &mut [u8],
 ) -> WordAnswer
-    ensures { λ r. ⌜ ((M : Table) → Opened (now (frames .entry)) (now (numbers .entry)) M
-        → Answers (wordInto M (now (tree .entry)) (length (now (room .entry)))) (now (room .entry)) (now (room .exit)) r) ⌝ }
+    ensures { λ r. ⌜ Meant (now (frames .entry)) (now (numbers .entry)) (λ M. Answers (wordInto M (now (tree .entry)) (length (now (room .entry)))) (now (room .entry)) (now (room .exit)) r) ⌝ }
 {
     let counted = measure::measure(numbers, tree, plan);
     let Tally::Counted { letters } = counted else {
