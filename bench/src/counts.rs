@@ -206,11 +206,8 @@ struct Work {
     rules: usize,
 }
 
-/// Whether the rules of two states for one symbol are the same up to the classes.
-fn same_rules(rep: &[usize], a: Option<&Rule>, b: Option<&Rule>) -> bool {
-    let (Some(a), Some(b)) = (a, b) else {
-        return a.is_none() && b.is_none();
-    };
+/// Whether two rules for one symbol are the same up to the classes.
+fn same_rules(rep: &[usize], a: &Rule, b: &Rule) -> bool {
     let mut children = a.children.iter().zip(&b.children);
     a.before == b.before
         && children.all(|(x, y)| {
@@ -218,19 +215,16 @@ fn same_rules(rep: &[usize], a: Option<&Rule>, b: Option<&Rule>) -> bool {
         })
 }
 
-fn rule_of(table: &Table, state: usize, symbol: usize) -> Option<&Rule> {
-    table
-        .rules_of(state as u8)
-        .iter()
-        .find(|rule| usize::from(rule.symbol) == symbol)
-}
-
+/// Whether the rows of two states are the same up to the classes: along the rules of one, each beside
+/// the other's for its symbol, and then by how many they are.
 fn same_rows(table: &Table, rep: &[usize], q: usize, r: usize, work: &mut Work) -> bool {
     work.rows += 1;
-    (0..table.arities.len()).all(|symbol| {
+    let (mine, others) = (table.rules_of(q as u8), table.rules_of(r as u8));
+    mine.iter().all(|a| {
         work.rules += 1;
-        same_rules(rep, rule_of(table, q, symbol), rule_of(table, r, symbol))
-    })
+        let other = others.iter().find(|b| b.symbol == a.symbol);
+        other.is_some_and(|b| same_rules(rep, a, b))
+    }) && mine.len() == others.len()
 }
 
 /// The classes by rounds: a row is compared only with those of states that stand for their class in
@@ -241,7 +235,7 @@ fn classes(table: &Table) -> (Vec<usize>, Work) {
     loop {
         let mut next: Vec<usize> = Vec::with_capacity(rep.len());
         for q in 0..rep.len() {
-            let leader = (0..q).find(|&r| {
+            let leader = (rep[q]..q).find(|&r| {
                 next[r] == r && rep[q] == rep[r] && same_rows(table, &rep, q, r, &mut work)
             });
             next.push(leader.unwrap_or(q));
@@ -338,7 +332,10 @@ pub fn print() {
     println!();
     println!("| Table | Rounds | Row comparisons | Over states squared | Rule comparisons |");
     println!("|---|---|---|---|---|");
-    for shaped in shapes::all() {
+    for shaped in shapes::all()
+        .iter()
+        .filter(|shaped| shaped.table.states == 64)
+    {
         let work = checked_rows(&shaped.table);
         let share = work.rows as f64 / f64::from(shaped.table.states).powi(2);
         println!(
