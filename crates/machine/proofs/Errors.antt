@@ -13,7 +13,7 @@ use Rattle.machine.specs.Earliest.{L, Tails, Reached, initial, below, Le
 use Rattle.machine.specs.Verdict.{late, earliest, Judged}
 use Rattle.machine.proofs.Find.{find-holds}
 use Rattle.machine.proofs.Word.{word-parts, words-nil, words-parts}
-use Rattle.machine.proofs.Small.{row, to, firsts, one-word, AllBlank, all-blank-judged, all-blank-earliest, all-blank-late}
+use Rattle.machine.proofs.Small.{row, to, firsts, one-word, BlankStates, blank-states-judged, blank-states-earliest, blank-states-late}
 
 -- ---- Two first letters are the same, but the empty word is in the set.
 -- g(x) is a and then x, and e is empty: L(0) is the words a .. a.
@@ -29,9 +29,9 @@ star =
     }
 
 -- Its state is reached and has the empty word, on e.
-star-all-blank : AllBlank star
+star-blank-states : BlankStates star
 unfolding word find
-star-all-blank = record { reached = firsts (Reached star) 1 (initial refl, tt); blank = firsts (λ q. Holds (L star q) []) 1 ((node 1 ∅, refl), tt) }
+star-blank-states = record { reached = firsts (Reached star) 1 (initial refl, tt); blank = firsts (λ q. Holds (L star q) []) 1 ((node 1 ∅, refl), tt) }
 
 -- A rule that writes nothing and has no children, or begins with a.
 abbrev NothingOrA : Rule → Type 0
@@ -54,7 +54,7 @@ star-first (node f ts) b w e =
 -- And still the table is earliest.
 pub star-judged : Judged star earliest
 unfolding word find
-star-judged = all-blank-earliest star star-all-blank (omega arith) refl ((empty-no-prefix (Tails star (to 0 [] ∷ [])) (node 1 ∅ ▸ ∅, refl), tt), (tt, tt))
+star-judged = blank-states-earliest star star-blank-states (omega arith) refl ((empty-no-prefix (Tails star (to 0 [] ∷ [])) (node 1 ∅ ▸ ∅, refl), tt), (tt, tt))
 
 -- ---- E2 is met at the first child only.
 -- g(x,y) is the word of x, that of y at state 1, and b; e is empty; h is c. State 1 has e alone.
@@ -70,9 +70,9 @@ second =
     }
 
 -- Each state is reached and has the empty word.
-second-all-blank : AllBlank second
+second-blank-states : BlankStates second
 unfolding word find
-second-all-blank =
+second-blank-states =
     record {
       reached = firsts (Reached second) 2 (initial refl, (below 0 (initial refl) refl (List·Memᴰ·tail (List·Memᴰ·head refl)) refl, tt));
       blank = firsts (λ q. Holds (L second q) []) 2 ((node 1 ∅, refl), ((node 1 ∅, refl), tt));
@@ -99,7 +99,7 @@ second-second = head-prefix (Tails second (to 1 (98 ∷ []) ∷ [])) 98 each
 
 -- The table is judged 18, for its first rule.
 pub second-judged : Judged second (late 18 0)
-second-judged = all-blank-late second second-all-blank (omega arith) refl (row 0 0 [] (to 0 [] ∷ to 1 (98 ∷ []) ∷ [])) refl (λ h. second-second (h .1 .0))
+second-judged = blank-states-late second second-blank-states (omega arith) refl (row 0 0 [] (to 0 [] ∷ to 1 (98 ∷ []) ∷ [])) refl (λ h. second-second (h .1 .0))
 
 -- ---- E2 is not met in the initial rule.
 -- The one word of state 0 is empty, and b follows.
@@ -107,9 +107,9 @@ abbrev pub ending : Table
 ending = record { arities = 0 ∷ 0 ∷ []; states = 1; before = []; start = 0; after = 98 ∷ []; rows = row 0 1 [] [] ∷ [] }
 
 -- Its state is reached and has the empty word, on e.
-ending-all-blank : AllBlank ending
+ending-blank-states : BlankStates ending
 unfolding word find
-ending-all-blank = record { reached = firsts (Reached ending) 1 (initial refl, tt); blank = firsts (λ q. Holds (L ending q) []) 1 ((node 1 ∅, refl), tt) }
+ending-blank-states = record { reached = firsts (Reached ending) 1 (initial refl, tt); blank = firsts (λ q. Holds (L ending q) []) 1 ((node 1 ∅, refl), tt) }
 
 -- With what follows it has the word b alone.
 ending-late : LeftStart ending → ⊥
@@ -123,5 +123,5 @@ ending-late = head-prefix (λ t. L ending 0 t ⊕ some (98 ∷ [])) 98 each
 -- The table is judged 17.
 pub ending-judged : Judged ending (late 17 0)
 ending-judged =
-    all-blank-judged ending ending-all-blank (late 17 0)
+    blank-states-judged ending ending-blank-states (late 17 0)
     (inl (0, record { place = omega arith; fails = ending-late; least = λ r l. absurd (omega arith) }, refl))

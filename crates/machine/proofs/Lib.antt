@@ -7,7 +7,7 @@
 --   Twins      twins: same words are twins by every number of rounds. match-two: matching rules relate states of the tables
 --   Ranks      word-ranked, ranked-same, ranked-agree: only ranked trees have words, so agreement on those is agreement on all
 --   Judged     judged-unique, judged-earliest: a table has at most one verdict, and it is judged earliest exactly when it is
---   Small      firsts, one-word, all-blank-judged: for small tables written out
+--   Small      firsts, one-word, blank-states-judged: for small tables written out
 --   Errors     star-judged, second-judged, ending-judged: the empty word counts; E2 is asked at every child, and in the initial rule
 --   Silent     silent-apart, silent-judged: a state that writes nothing still turns trees down
 --   Sides      sides-same, sides-apart, behind-judged: abc q and q abc mean the same, and only one is earliest

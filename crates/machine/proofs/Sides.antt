@@ -16,7 +16,7 @@ use Rattle.machine.specs.Verdict.{late, earliest, Judged}
 use Rattle.machine.specs.Same.{Same}
 use Rattle.machine.specs.Twins.{Match}
 use Rattle.machine.proofs.Word.{words-parts, words-nil}
-use Rattle.machine.proofs.Small.{row, to, firsts, AllBlank, all-blank-earliest, all-blank-late}
+use Rattle.machine.proofs.Small.{row, to, firsts, BlankStates, blank-states-earliest, blank-states-late}
 
 -- The word abc.
 abbrev abc : Word
@@ -130,9 +130,9 @@ unfolding find
 sides-apart h = cons≢nil (h 0 .0)
 
 -- In either table the state is reached and has the empty word, on e.
-table-all-blank : (r : Rule) → AllBlank (table r)
+table-blank-states : (r : Rule) → BlankStates (table r)
 unfolding word find
-table-all-blank r =
+table-blank-states r =
     record {
       reached = firsts (Reached (table r)) 1 (initial refl, tt);
       blank = firsts (λ q. Holds (L (table r) q) []) 1 ((node 1 ∅, refl), tt);
@@ -142,7 +142,7 @@ table-all-blank r =
 pub front-judged : Judged front earliest
 unfolding word find
 front-judged =
-    all-blank-earliest front (table-all-blank abc-q) (omega arith) refl
+    blank-states-earliest front (table-blank-states abc-q) (omega arith) refl
     ((empty-no-prefix (Tails front (to 0 [] ∷ [])) (node 1 ∅ ▸ ∅, refl), tt), (tt, tt))
 
 -- In q abc every word begins with a.
@@ -158,4 +158,4 @@ behind-late = head-prefix (Tails behind (to 0 abc ∷ [])) 97 each
 
 -- The table with q abc is judged 18, for its first rule.
 pub behind-judged : Judged behind (late 18 0)
-behind-judged = all-blank-late behind (table-all-blank q-abc) (omega arith) refl (row 0 0 [] (to 0 abc ∷ [])) refl (λ h. behind-late (h .0))
+behind-judged = blank-states-late behind (table-blank-states q-abc) (omega arith) refl (row 0 0 [] (to 0 abc ∷ [])) refl (λ h. behind-late (h .0))

@@ -10,7 +10,7 @@ use Rattle.machine.specs.Machine.{Tree, node, ∅, _▸_, Table, find, w
 use Rattle.machine.specs.Earliest.{L, Tails, Reached, initial, below}
 use Rattle.machine.specs.Verdict.{earliest, Judged}
 use Rattle.machine.specs.Same.{Same}
-use Rattle.machine.proofs.Small.{row, to, firsts, one-word, AllBlank, all-blank-earliest}
+use Rattle.machine.proofs.Small.{row, to, firsts, one-word, BlankStates, blank-states-earliest}
 
 -- g(x,y) is the word of x at state 1 and that of y at state 2. All words are empty: state 1 takes e, and state 2 takes e and h.
 abbrev pub silent : Table
@@ -42,9 +42,9 @@ unfolding word find
 silent-apart e = Option·none-ne-some [] (e (node 2 ∅))
 
 -- Each state is reached and has the empty word.
-silent-all-blank : AllBlank silent
+silent-blank-states : BlankStates silent
 unfolding word find
-silent-all-blank =
+silent-blank-states =
     let left = below 0 (initial refl) refl (List·Memᴰ·head refl) refl in
     let right = below 0 (initial refl) refl (List·Memᴰ·tail (List·Memᴰ·head refl)) refl in
     record {
@@ -58,4 +58,4 @@ unfolding word find
 silent-judged =
     let both = empty-no-prefix (Tails silent (to 1 [] ∷ to 2 [] ∷ [])) (node 1 ∅ ▸ node 1 ∅ ▸ ∅, refl) in
     let second = empty-no-prefix (Tails silent (to 2 [] ∷ [])) (node 1 ∅ ▸ ∅, refl) in
-    all-blank-earliest silent silent-all-blank (omega arith) refl ((both, (second, tt)), (tt, (tt, (tt, tt))))
+    blank-states-earliest silent silent-blank-states (omega arith) refl ((both, (second, tt)), (tt, (tt, (tt, tt))))

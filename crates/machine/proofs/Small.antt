@@ -47,14 +47,14 @@ one-word M q u h (node f ts) w e =
 
 -- ---- verdicts where each state has the empty word
 -- Each state is reached and has the empty word.
-pub record AllBlank (M : Table) : Type 0 where
+pub record BlankStates (M : Table) : Type 0 where
   pub reached : (q : ℕ) → q < M .states → Reached M q
   pub blank : (q : ℕ) → q < M .states → Holds (L M q) []
 
-module _ (M : Table) (b : AllBlank M) where
+module _ (M : Table) (b : BlankStates M) where
   -- Then 13 to 16 are not given, and the verdict is that of the last two conditions.
-  pub all-blank-judged : (v : Verdict) → JudgedBy (drop 4 (conditions M)) v → Judged M v
-  all-blank-judged v j = inr (b .reached, inr (some-word, inr (no-prefix, inr (no-suffix, j))))
+  pub blank-states-judged : (v : Verdict) → JudgedBy (drop 4 (conditions M)) v → Judged M v
+  blank-states-judged v j = inr (b .reached, inr (some-word, inr (no-prefix, inr (no-suffix, j))))
     where
       some-word : (q : ℕ) → q < M .states → HasWord M q
       some-word q l = ([], b .blank q l)
@@ -67,20 +67,20 @@ module _ (M : Table) (b : AllBlank M) where
 
   module _ (inside : M .start < M .states) (nothing : M .after ≡ []) where
     -- With nothing after the initial state, E2 is met there.
-    all-blank-start : LeftStart M
-    all-blank-start =
+    blank-states-start : LeftStart M
+    blank-states-start =
         let h = b .blank (M .start) inside in
         empty-no-prefix (λ t. L M (M .start) t ⊕ some (M .after)) (h .0, rw (h .1, nothing))
 
     -- The table is earliest if its rules meet E2.
-    pub all-blank-earliest : Every (λ r. LeftRule M (r .rule)) (M .rows) → Judged M earliest
-    all-blank-earliest h = all-blank-judged earliest (inr (λ p l. all-blank-start, inr (λ i l. every-at (λ r. LeftRule M (r .rule)) (M .rows) h i, refl)))
+    pub blank-states-earliest : Every (λ r. LeftRule M (r .rule)) (M .rows) → Judged M earliest
+    blank-states-earliest h = blank-states-judged earliest (inr (λ p l. blank-states-start, inr (λ i l. every-at (λ r. LeftRule M (r .rule)) (M .rows) h i, refl)))
 
     -- It is judged 18 for its first rule if that does not.
-    pub all-blank-late : (r : Row) → getElem? (M .rows) 0 ≡ some r → (LeftRule M (r .rule) → ⊥) → Judged M (late 18 0)
-    all-blank-late r e n =
-        all-blank-judged (late 18 0)
+    pub blank-states-late : (r : Row) → getElem? (M .rows) 0 ≡ some r → (LeftRule M (r .rule) → ⊥) → Judged M (late 18 0)
+    blank-states-late r e n =
+        blank-states-judged (late 18 0)
         (inr (
-          λ p l. all-blank-start,
+          λ p l. blank-states-start,
           inl (0, record { place = index-below (M .rows) 0 r e; fails = λ h. n (h r e); least = λ i l. absurd (omega arith) }, refl),
         ))
