@@ -5,7 +5,7 @@ use mathlib.Core.Logic.{inl, inr}
 use mathlib.Core.Option.{some}
 use Prim.Native.Nat.{ℕ, zero, suc, _<_}
 use native.Mathlib.Omega.{arith}
-use lib.ListN.{drop, getElem?}
+use lib.ListN.{length, drop, getElem?}
 use Rattle.words.specs.Word.{Word, _⊕_, Holds, NoPrefix, NoSuffix}
 use Rattle.words.proofs.Ends.{empty-no-prefix, empty-no-suffix}
 use Rattle.machine.specs.Machine.{Tree, node, Child, Row, Table, word, words, Every}
@@ -74,7 +74,11 @@ module _ (M : Table) (b : BlankStates M) where
 
     -- The table is earliest if its rules meet E2.
     pub blank-states-earliest : Every (λ r. LeftRule M (r .rule)) (M .rows) → Judged M earliest
-    blank-states-earliest h = blank-states-judged earliest (inr (λ p l. blank-states-start, inr (λ i l. every-at (λ r. LeftRule M (r .rule)) (M .rows) h i, refl)))
+    blank-states-earliest h =
+        blank-states-judged earliest (inr (λ p l. blank-states-start, inr (every-met, refl)))
+      where
+        every-met : (i : ℕ) → i < length (M .rows) → (r : Row) → getElem? (M .rows) i ≡ some r → LeftRule M (r .rule)
+        every-met i l = every-at (λ r. LeftRule M (r .rule)) (M .rows) h i
 
     -- It is judged 18 for its first rule if that does not.
     pub blank-states-late : (r : Row) → getElem? (M .rows) 0 ≡ some r → (LeftRule M (r .rule) → ⊥) → Judged M (late 18 0)
