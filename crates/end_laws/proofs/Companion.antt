@@ -53,9 +53,8 @@ pub record CheckTells (k : Check) (c : Condition) : Type 0 where
   pub failed : (p : ℕ) → p < c .places → k .passes p ≡ false → c .holds p → ⊥
 
 -- The verdict by conditions, if the first check tells of the first condition and the others of the others where the first is met.
-judged-step : (k : Check) (ks : List Check) (c : Condition) (cs : List Condition) → CheckTells k c
-    → (Met c → JudgedBy cs (judgeBy ks))
-    → JudgedBy (c ∷ cs) (judgeBy (k ∷ ks))
+judged-step : (k : Check) (ks : List Check) (c : Condition) (cs : List Condition)
+    → CheckTells k c → (Met c → JudgedBy cs (judgeBy ks)) → JudgedBy (c ∷ cs) (judgeBy (k ∷ ks))
 unfolding judgeBy
 judged-step k ks c cs t f = go (least (k .passes) (k .places) 0) (least-least (k .passes) (k .places) 0)
   where
@@ -90,8 +89,9 @@ abbrev CheckedBy : ℕ → ℕ → (ℕ → Bool) → (ℕ → Type 0) → Type 
 CheckedBy n m passes holds = CheckTells (record { number = n; places = m; passes = passes }) (record { number = n; places = m; holds = holds })
 
 -- It does if the condition holds where the check passes, and fails where it does not.
-checked-by : {n m : ℕ} {passes : ℕ → Bool} {holds : ℕ → Type 0} → ((p : ℕ) → p < m → passes p ≡ true → holds p)
-    → ((p : ℕ) → p < m → passes p ≡ false → holds p → ⊥) → CheckedBy n m passes holds
+checked-by : {n m : ℕ} {passes : ℕ → Bool} {holds : ℕ → Type 0}
+    → ((p : ℕ) → p < m → passes p ≡ true → holds p) → ((p : ℕ) → p < m → passes p ≡ false → holds p → ⊥)
+    → CheckedBy n m passes holds
 checked-by f g = record { number = refl; places = refl; passed = f; failed = g }
 
 -- ---- the conditions of a table

@@ -51,9 +51,8 @@ module _ (M : Table) (side : Side) where
 
   -- ---- all rows
   -- A sweep keeps what is witnessed.
-  sweep-witnessed : (rows : List Row) → ((i : ℕ) (row : Row) → getElem? rows i ≡ some row → Found row) → (vs : List Ends)
-      → Witnessed M side (at vs)
-      → Witnessed M side (at (sweep side rows vs))
+  sweep-witnessed : (rows : List Row) → ((i : ℕ) (row : Row) → getElem? rows i ≡ some row → Found row)
+      → (vs : List Ends) → Witnessed M side (at vs) → Witnessed M side (at (sweep side rows vs))
   unfolding sweep
   sweep-witnessed [] f vs W = W
   sweep-witnessed (row ∷ rows) f vs W = sweep-witnessed rows (λ i. f (suc i)) (visit side row vs) (visit-witnessed row (f zero row refl) vs W)
@@ -80,8 +79,7 @@ first-rests side row rows vs e =
 
 -- In a sweep after which no more is known, no row changed anything.
 sweep-rests : (side : Side) (rows : List Row) (vs : List Ends) → ranks (sweep side rows vs) ≡ ranks vs
-    → (i : ℕ) (row : Row) → getElem? rows i ≡ some row
-    → visit side row vs ≡ vs
+    → (i : ℕ) (row : Row) → getElem? rows i ≡ some row → visit side row vs ≡ vs
 unfolding sweep
 sweep-rests side [] vs e i row j = absurd (Option·none-ne-some row j)
 sweep-rests side (r ∷ rows) vs e zero row j = subst (λ x. visit side x vs ≡ vs) (Option·some-injective r row j) (first-rests side r rows vs e)

@@ -130,9 +130,8 @@ unfolding spread
 first-rests row rows ms e = raised-first (follow-raised row ms) (spread-raised rows (follow row ms)) e
 
 -- If all rows add no mark, each of them adds none.
-pub spread-rests : (rows : List Row) (ms : List Bool) → marked (spread rows ms) ≡ marked ms → (i : ℕ) (row : Row)
-    → getElem? rows i ≡ some row
-    → follow row ms ≡ ms
+pub spread-rests : (rows : List Row) (ms : List Bool) → marked (spread rows ms) ≡ marked ms
+    → (i : ℕ) (row : Row) → getElem? rows i ≡ some row → follow row ms ≡ ms
 unfolding spread
 spread-rests [] ms e i row j = absurd (Option·none-ne-some row j)
 spread-rests (r ∷ rows) ms e zero row j = subst (λ x. follow x ms ≡ ms) (Option·some-injective r row j) (first-rests r rows ms e)

@@ -156,7 +156,8 @@ gathered right K x = blank-before x
 
 -- A rule's summary gathered from left to right: one child and the word behind it are taken in.
 pub gather : (side : Side) (K : ℕ → Ends) (x : Ends) (c : Child) (cs : List Child)
-    → beside side x (along side K (c ∷ cs)) ≡ beside side (beside side (beside side x (K (c .state))) (alone (end side (c .after)))) (along side K cs)
+    → beside side x (along side K (c ∷ cs))
+    ≡ beside side (beside side (beside side x (K (c .state))) (alone (end side (c .after)))) (along side K cs)
 unfolding along
 gather side K x c cs =
     let u = alone (end side (c .after)) in

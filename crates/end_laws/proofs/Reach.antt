@@ -23,8 +23,7 @@ rest-reached M q f r e h = among-each (λ c. Reached M (c .state)) (r .rest) (λ
 -- What holds of the initial state, and with a row's state of its children, holds of every state that is reached.
 reached-within : (M : Table) (P : ℕ → Type 0) → P (M .start)
     → ((i : ℕ) (row : Row) → getElem? (M .rows) i ≡ some row → P (row .state) → Each (λ c ds. P (c .state)) (row .rule .rest))
-    → (q : ℕ) → Reached M q
-    → P q
+    → (q : ℕ) → Reached M q → P q
 reached-within M P s k q (initial e) = subst P e s
 reached-within M P s k q (below {q = p} {r = r} {c = c} f h e m i) =
     let a = find-index (M .rows) p f r e in
@@ -64,8 +63,7 @@ module _ (M : Table) where
   -- All rows.
   spread-sound : (rows : List Row)
       → ((i : ℕ) (row : Row) → getElem? rows i ≡ some row → find (M .rows) (row .state) (row .symbol) ≡ some (row .rule))
-      → (ms : List Bool) → Sound ms
-      → Sound (spread rows ms)
+      → (ms : List Bool) → Sound ms → Sound (spread rows ms)
   unfolding spread
   spread-sound [] f ms s = s
   spread-sound (row ∷ rows) f ms s = spread-sound rows (λ i. f (suc i)) (follow row ms) (follow-sound row (f zero row refl) ms s)

@@ -90,8 +90,8 @@ module _ (M : Table) (side : Side) (K : ℕ → Ends) where
   -- A word of a child and the children right of it fits, if the child's word and theirs do.
   rest-fits : (t : Tree) (ts : Forest) (c : Child) (cs : List Child) (w : Word)
       → ((u : Word) → word M (c .state) t ≡ some u → Fits side u (K (c .state)))
-      → ((v : Word) → words M ts cs ≡ some v → Fits side v (along side K cs)) → words M (t ▸ ts) (c ∷ cs) ≡ some w
-      → Fits side w (along side K (c ∷ cs))
+      → ((v : Word) → words M ts cs ≡ some v → Fits side v (along side K cs))
+      → words M (t ▸ ts) (c ∷ cs) ≡ some w → Fits side w (along side K (c ∷ cs))
   unfolding along word
   rest-fits t ts c cs w f g e =
       let a = both-of (word M (c .state) t) (some (c .after) ⊕ words M ts cs) w e in

@@ -23,9 +23,9 @@ module _ {A : Type 0} (m : A → ℕ) (f : A → A) where
       go false i = i
 
   -- With enough steps the measure stays in the end, if no step lowers it and it is bounded.
-  pub settle-rests : (P : A → Type 0) (bound : ℕ) → ((a : A) → P a → P (f a)) → ((a : A) → P a → m a ≤ bound)
-      → ((a : A) → m a ≤ m (f a)) → (n : ℕ) (a : A) → P a → bound ≤ m a + n
-      → m (f (settle m f n a)) ≡ m (settle m f n a)
+  pub settle-rests : (P : A → Type 0) (bound : ℕ)
+      → ((a : A) → P a → P (f a)) → ((a : A) → P a → m a ≤ bound) → ((a : A) → m a ≤ m (f a))
+      → (n : ℕ) (a : A) → P a → bound ≤ m a + n → m (f (settle m f n a)) ≡ m (settle m f n a)
   unfolding settle
   settle-rests P bound k b up zero a h e = omega (arith, b (f a) (k a h), up a)
   settle-rests P bound k b up (suc n) a h e = go (eqb (m (f a)) (m a)) refl (λ l. settle-rests P bound k b up n (f a) (k a h) l)

@@ -106,9 +106,8 @@ before-shown P Q R f x y h k = go (lives x) (lives y) (lives-shown Q y k)
 
 -- Where words u v make a set, what shows the sets of u and of v shows it.
 pub beside-shown : {I J H : Type 0} (side : Side) (X : I → Option Word) (Y : J → Option Word) (Z : H → Option Word)
-    → ((u v : Word) → Holds X u → Holds Y v → Holds Z (u ++ v)) → (x y : Ends) → Shown (Ending side X) x
-    → Shown (Ending side Y) y
-    → Shown (Ending side Z) (beside side x y)
+    → ((u v : Word) → Holds X u → Holds Y v → Holds Z (u ++ v))
+    → (x y : Ends) → Shown (Ending side X) x → Shown (Ending side Y) y → Shown (Ending side Z) (beside side x y)
 beside-shown left X Y Z f x y h k =
     before-shown (Ending left X) (Ending left Y) (Ending left Z)
     (λ o p a b. (a .0 ++ b .0, f (a .0) (b .0) (a .1) (b .1), end-from left (a .0) (b .0) ∙ cc (a .2, b .2))) x y h k

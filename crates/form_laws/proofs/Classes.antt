@@ -21,9 +21,9 @@ use Rattle.form_laws.proofs.Order.{InOrder, listed-inside, order-same}
 use Rattle.form_laws.proofs.Reach.{start-numbered}
 
 -- What holds of all child states of a rest, and of any state with the same words, holds of those of a matching rest.
-rests-all : (M : Table) (P : ℕ → Type 0) → ((p q : ℕ) → q < M .states → Same M M p q → P p → P q) → (cs ds : List Child)
-    → Rests (Same M M) cs ds → All (λ d. d .state < M .states) ds → All (λ c. P (c .state)) cs
-    → All (λ d. P (d .state)) ds
+rests-all : (M : Table) (P : ℕ → Type 0) → ((p q : ℕ) → q < M .states → Same M M p q → P p → P q)
+    → (cs ds : List Child) → Rests (Same M M) cs ds → All (λ d. d .state < M .states) ds
+    → All (λ c. P (c .state)) cs → All (λ d. P (d .state)) ds
 rests-all M P f [] [] r l h = tt
 rests-all M P f [] (d ∷ ds) r l h = absurd r
 rests-all M P f (c ∷ cs) [] r l h = absurd r

@@ -47,9 +47,8 @@ find-rowsOf P (s ∷ rs) q f r h e =
     ]
 
 -- What holds of all child states of a state holds of those of a rule that is found for it.
-pub find-children : (P : ℕ → Type 0) (rows : List Row) (q f : ℕ) (r : Rule) → All P (childStates (rowsOf rows q))
-    → find rows q f ≡ some r
-    → All (λ c. P (c .state)) (r .rest)
+pub find-children : (P : ℕ → Type 0) (rows : List Row) (q f : ℕ) (r : Rule)
+    → All P (childStates (rowsOf rows q)) → find rows q f ≡ some r → All (λ c. P (c .state)) (r .rest)
 find-children P rows q f r h e = find-rowsOf (λ s. All (λ c. P (c .state)) (s .rest)) rows q f r (all-childStates P (rowsOf rows q) h) e
 
 module _ (number : ℕ → ℕ) where

@@ -24,9 +24,8 @@ tests-equal false true f g = g refl
 tests-equal false false f g = refl
 
 -- Tables with equal fields are equal.
-table-equal : (M N : Table) → M .arities ≡ N .arities → M .states ≡ N .states → M .before ≡ N .before → M .start ≡ N .start
-    → M .after ≡ N .after → M .rows ≡ N .rows
-    → M ≡ N
+table-equal : (M N : Table) → M .arities ≡ N .arities → M .states ≡ N .states
+    → M .before ≡ N .before → M .start ≡ N .start → M .after ≡ N .after → M .rows ≡ N .rows → M ≡ N
 table-equal M N a b c d e f = λ i. record { arities = a i; states = b i; before = c i; start = d i; after = e i; rows = f i }
 
 module _ (M N : Table) (s t : Test) (W : WellMade M) (W′ : WellMade N) (D : Decides s M) (D′ : Decides t N) where

@@ -74,8 +74,7 @@ module _ (M : Table) (b : BlankStates M) where
 
     -- The table is earliest if its rules meet E2.
     pub blank-states-earliest : Every (λ r. LeftRule M (r .rule)) (M .rows) → Judged M earliest
-    blank-states-earliest h =
-        blank-states-judged earliest (inr (λ p l. blank-states-start, inr (every-met, refl)))
+    blank-states-earliest h = blank-states-judged earliest (inr (λ p l. blank-states-start, inr (every-met, refl)))
       where
         every-met : (i : ℕ) → i < length (M .rows) → (r : Row) → getElem? (M .rows) i ≡ some r → LeftRule M (r .rule)
         every-met i l = every-at (λ r. LeftRule M (r .rule)) (M .rows) h i

@@ -3,7 +3,7 @@ use mathlib.Core.Path.{_≡_, refl}
 use mathlib.Core.Logic.{_↔_}
 use mathlib.Core.List.{List, [], _∷_}
 use mathlib.Core.Option.{Option, none, some}
-use Prim.Native.Nat.{ℕ, zero, suc, _<_}
+use Prim.Native.Nat.{ℕ, _<_}
 use Rattle.machine.specs.Machine.{Child, Rule, Table, WellMade, find}
 use Rattle.machine.specs.Earliest.{Earliest}
 use Rattle.machine.specs.Same.{Same}

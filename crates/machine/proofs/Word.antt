@@ -44,8 +44,8 @@ module _ (M : Table) where
   word-join q f ts r v e h = rw (e, h)
 
   -- A word of the first child's state and a word of what follows give a word of the rest.
-  pub words-join : (t : Tree) (ts : Forest) (c : Child) (cs : List Child) (x y : Word) → word M (c .state) t ≡ some x
-      → words M ts cs ≡ some y
+  pub words-join : (t : Tree) (ts : Forest) (c : Child) (cs : List Child) (x y : Word)
+      → word M (c .state) t ≡ some x → words M ts cs ≡ some y
       → words M (t ▸ ts) (c ∷ cs) ≡ some (x ++ (c .after ++ y))
   unfolding words
   words-join t ts c cs x y e h = rw (e, h)

@@ -1,5 +1,5 @@
 -- A set of words read backwards: its common prefixes are the common suffixes of the set.
-use mathlib.Core.Path.{_≡_, refl, sym, ap, _∙_}
+use mathlib.Core.Path.{_≡_, sym, ap, _∙_}
 use mathlib.Core.Logic.{_↔_}
 use mathlib.Core.List.{[], _++_, reverse, reverse-append, reverse-reverse}
 use mathlib.Core.Option.{Option, none, some, Option·some-injective, Option·none-ne-some}

@@ -58,8 +58,8 @@ module _ {I : Type 0} where
       (p, λ i. cancel-right v (X i) (Y i) (rw p at (e i)))
 
 -- Splitting: two products of sets are the same, and the first sets have no common suffix. Then the first sets are the same, and so are the second.
-pub split : {I J : Type 0} (X Y : I → Option Word) (A B : J → Option Word) (w r : Word) → NoSuffix X → NoSuffix Y → Holds X w
-    → Holds A r → ((i : I) (j : J) → X i ⊕ A j ≡ Y i ⊕ B j)
+pub split : {I J : Type 0} (X Y : I → Option Word) (A B : J → Option Word) (w r : Word)
+    → NoSuffix X → NoSuffix Y → Holds X w → Holds A r → ((i : I) (j : J) → X i ⊕ A j ≡ Y i ⊕ B j)
     → ((i : I) → X i ≡ Y i) × ((j : J) → A j ≡ B j)
 split {I} X Y A B w r nX nY h k e =
     let b = both-of (Y (h .0)) (B (k .0)) (w ++ r) (sym (e (h .0) (k .0)) ∙ rw (h .1, k .1)) in
