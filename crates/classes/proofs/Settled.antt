@@ -8,7 +8,7 @@ use lib.ListN.{getD}
 use Rattle.machine.specs.Machine.{Table, WellMade, find}
 use Rattle.machine.specs.Earliest.{Earliest}
 use Rattle.machine.specs.Same.{Same}
-use Rattle.machine.specs.Twins.{Match, Kept, Twin}
+use Rattle.machine.specs.Twins.{Match, RulesKeep, Twin}
 use Rattle.machine.proofs.Agreement.{agree}
 use Rattle.machine.proofs.Kept.{rules-map, kept-twin, twin-same}
 use Rattle.machine.proofs.Twins.{Two, match-two}
@@ -17,7 +17,7 @@ use Rattle.classes.specs.Rounds.{Alike, Paired, Shapes, Least, Rounded, 
 use Rattle.classes.proofs.Pairs.{paired-refl, least-same, same-least}
 
 -- Where states with the same words have matching rules, they are the twins: so classes of twins are classes of these.
-pub kept-classes : {M : Table} {rep : List ℕ} → Kept M M (Same M M) → TwinClasses M rep → Classes M rep
+pub kept-classes : {M : Table} {rep : List ℕ} → RulesKeep M M (Same M M) → TwinClasses M rep → Classes M rep
 kept-classes {M} {rep} kept h =
     record {
       same = λ q r hq hr.

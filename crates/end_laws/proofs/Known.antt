@@ -29,10 +29,14 @@ at-set vs q x p = go (ℕ-discrete p q) (decLt q (length vs))
     go (yes e) (no l) = inl (ap (λ y. at y p) (set-out vs q x (omega arith)))
     go (no n) d = inl (getD-set-other vs q p x unknown n)
 
+-- A row's summary joined into its state's.
+abbrev joined : Side → Row → List Ends → Ends
+joined side row vs = join (at vs (row .state)) (value side (at vs) (row .rule))
+
 -- A row that changes nothing is settled.
 pub visit-settled : (side : Side) (row : Row) (vs : List Ends) → row .state < length vs → visit side row vs ≡ vs → Settled side (at vs) row
 unfolding visit
-visit-settled side row vs l e = sym (getD-set-same vs (row .state) (join (at vs (row .state)) (value side (at vs) (row .rule))) unknown l) ∙ ap (λ y. at y (row .state)) e
+visit-settled side row vs l e = sym (getD-set-same vs (row .state) (joined side row vs) unknown l) ∙ ap (λ y. at y (row .state)) e
 
 module _ (M : Table) (side : Side) where
   -- The rule of a row is what is found for its state and symbol.
@@ -42,11 +46,13 @@ module _ (M : Table) (side : Side) where
   -- A row keeps what is witnessed.
   pub visit-witnessed : (row : Row) → Found row → (vs : List Ends) → Witnessed M side (at vs) → Witnessed M side (at (visit side row vs))
   unfolding visit
-  visit-witnessed row e vs W = step-witnessed M side (at vs) W row e (at (visit side row vs)) (at-set vs (row .state) (join (at vs (row .state)) (value side (at vs) (row .rule))))
+  visit-witnessed row e vs W =
+      step-witnessed M side (at vs) W row e (at (visit side row vs)) (at-set vs (row .state) (joined side row vs))
 
   -- ---- all rows
   -- A sweep keeps what is witnessed.
-  pub sweep-witnessed : (rows : List Row) → ((i : ℕ) (row : Row) → getElem? rows i ≡ some row → Found row) → (vs : List Ends) → Witnessed M side (at vs) → Witnessed M side (at (sweep side rows vs))
+  sweep-witnessed : (rows : List Row) → ((i : ℕ) (row : Row) → getElem? rows i ≡ some row → Found row)
+      → (vs : List Ends) → Witnessed M side (at vs) → Witnessed M side (at (sweep side rows vs))
   unfolding sweep
   sweep-witnessed [] f vs W = W
   sweep-witnessed (row ∷ rows) f vs W = sweep-witnessed rows (λ i. f (suc i)) (visit side row vs) (visit-witnessed row (f zero row refl) vs W)
@@ -55,58 +61,73 @@ module _ (M : Table) (side : Side) where
 sweep-length : (side : Side) (rows : List Row) (vs : List Ends) → length (sweep side rows vs) ≡ length vs
 unfolding sweep visit
 sweep-length side [] vs = refl
-sweep-length side (row ∷ rows) vs = sweep-length side rows (visit side row vs) ∙ length-set vs (row .state) (join (at vs (row .state)) (value side (at vs) (row .rule)))
+sweep-length side (row ∷ rows) vs = sweep-length side rows (visit side row vs) ∙ length-set vs (row .state) (joined side row vs)
 
 -- A sweep never lowers what is known.
 sweep-grows : (side : Side) (rows : List Row) (vs : List Ends) → ranks vs ≤ ranks (sweep side rows vs)
 unfolding sweep visit
 sweep-grows side [] vs = omega arith
-sweep-grows side (row ∷ rows) vs = omega (arith, ranks-grow vs (row .state) (value side (at vs) (row .rule)), sweep-grows side rows (visit side row vs))
+sweep-grows side (row ∷ rows) vs =
+    omega (arith, ranks-grow vs (row .state) (value side (at vs) (row .rule)), sweep-grows side rows (visit side row vs))
 
 -- In a sweep after which no more is known, the first row changed nothing.
 first-rests : (side : Side) (row : Row) (rows : List Row) (vs : List Ends) → ranks (sweep side (row ∷ rows) vs) ≡ ranks vs → visit side row vs ≡ vs
 unfolding sweep visit
-first-rests side row rows vs e = ranks-same vs (row .state) (value side (at vs) (row .rule)) (omega (arith, ranks-grow vs (row .state) (value side (at vs) (row .rule)), sweep-grows side rows (visit side row vs)))
+first-rests side row rows vs e =
+    ranks-same vs (row .state) (value side (at vs) (row .rule))
+    (omega (arith, ranks-grow vs (row .state) (value side (at vs) (row .rule)), sweep-grows side rows (visit side row vs)))
 
 -- In a sweep after which no more is known, no row changed anything.
-pub sweep-rests : (side : Side) (rows : List Row) (vs : List Ends) → ranks (sweep side rows vs) ≡ ranks vs → (i : ℕ) (row : Row) → getElem? rows i ≡ some row → visit side row vs ≡ vs
+sweep-rests : (side : Side) (rows : List Row) (vs : List Ends) → ranks (sweep side rows vs) ≡ ranks vs
+    → (i : ℕ) (row : Row) → getElem? rows i ≡ some row → visit side row vs ≡ vs
 unfolding sweep
 sweep-rests side [] vs e i row j = absurd (Option·none-ne-some row j)
 sweep-rests side (r ∷ rows) vs e zero row j = subst (λ x. visit side x vs ≡ vs) (Option·some-injective r row j) (first-rests side r rows vs e)
-sweep-rests side (r ∷ rows) vs e (suc i) row j = sweep-rests side rows vs (subst (λ x. ranks (sweep side rows x) ≡ ranks vs) (first-rests side r rows vs e) e) i row j
+sweep-rests side (r ∷ rows) vs e (suc i) row j =
+    sweep-rests side rows vs (subst (λ x. ranks (sweep side rows x) ≡ ranks vs) (first-rests side r rows vs e) e) i row j
 
 -- ---- what is known in the end
 module _ (M : Table) (W : WellMade M) (side : Side) where
-  -- Nothing is known in the beginning.
-  nothing-known : (q : ℕ) → at (replicate (M .states) unknown) q ≡ unknown
+  -- The summaries in the beginning.
+  abbrev begun : List Ends
+  begun = replicate (M .states) unknown
+
+  -- Nothing is known then.
+  nothing-known : (q : ℕ) → at begun q ≡ unknown
   nothing-known q = go (decLt q (M .states))
     where
-      go : Dec (q < M .states) → at (replicate (M .states) unknown) q ≡ unknown
+      go : Dec (q < M .states) → at begun q ≡ unknown
       go (yes l) = getD-replicate (M .states) q unknown unknown l
-      go (no l) = List·getD-eq-default (replicate (M .states) unknown) unknown (rw (length-replicate (M .states) unknown) (omega arith))
+      go (no l) = List·getD-eq-default begun unknown (rw (length-replicate (M .states) unknown) (omega arith))
 
   -- There is a summary for each state.
   known-length : length (known M side) ≡ M .states
   unfolding known
-  known-length = settle-keeps ranks (sweep side (M .rows)) (λ vs. length vs ≡ M .states) (λ vs e. sweep-length side (M .rows) vs ∙ e) (enough M) (replicate (M .states) unknown) (length-replicate (M .states) unknown)
+  known-length =
+      settle-keeps ranks (sweep side (M .rows)) (λ vs. length vs ≡ M .states) (λ vs e. sweep-length side (M .rows) vs ∙ e)
+      (enough M) begun (length-replicate (M .states) unknown)
 
   -- Each claim is shown by a word.
   pub known-witnessed : Witnessed M side (at (known M side))
   unfolding known
   known-witnessed =
-      settle-keeps ranks (sweep side (M .rows)) (λ vs. Witnessed M side (at vs)) (sweep-witnessed M side (M .rows) (λ i row e. find-row (M .rows) (W .rising) i row e)) (enough M) (replicate (M .states) unknown)
-      (λ q. subst (Shown (Ending side (L M q))) (sym (nothing-known q)) (unknown-shown (Ending side (L M q))))
+      settle-keeps ranks (sweep side (M .rows)) (λ vs. Witnessed M side (at vs))
+      (sweep-witnessed M side (M .rows) (λ i row e. find-row (M .rows) (W .rising) i row e))
+      (enough M) begun (λ q. subst (Shown (Ending side (L M q))) (sym (nothing-known q)) (unknown-shown (Ending side (L M q))))
 
   -- One more sweep changes nothing.
   known-rests : ranks (sweep side (M .rows) (known M side)) ≡ ranks (known M side)
   unfolding known
   known-rests =
-      settle-rests ranks (sweep side (M .rows)) (λ vs. length vs ≡ M .states) (3 * M .states) (λ vs e. sweep-length side (M .rows) vs ∙ e) (λ vs e. omega (arith, ranks-le vs, e)) (sweep-grows side (M .rows)) (enough M) (replicate (M .states) unknown) (length-replicate (M .states) unknown) (omega arith)
+      settle-rests ranks (sweep side (M .rows)) (λ vs. length vs ≡ M .states) (3 * M .states)
+      (λ vs e. sweep-length side (M .rows) vs ∙ e) (λ vs e. omega (arith, ranks-le vs, e)) (sweep-grows side (M .rows))
+      (enough M) begun (length-replicate (M .states) unknown) (omega arith)
 
   -- No row adds anything.
-  pub known-closed : Closed M side (at (known M side))
+  known-closed : Closed M side (at (known M side))
   known-closed i row e =
-      visit-settled side row (known M side) (rw known-length (every-at (RowFits M) (M .rows) (W .rows) i row e .state)) (sweep-rests side (M .rows) (known M side) known-rests i row e)
+      let inside = every-at (RowFits M) (M .rows) (W .rows) i row e .state in
+      visit-settled side row (known M side) (rw known-length inside) (sweep-rests side (M .rows) (known M side) known-rests i row e)
 
   -- Every word fits.
   pub known-covering : Covering M side (at (known M side))

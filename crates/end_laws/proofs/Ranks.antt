@@ -10,12 +10,13 @@ use lib.Dec.{eqb}
 use lib.ListN.{length, set, length-set}
 use lib.Seq.{set-getD, set-out, getD-set-same, getD-set-other}
 use Rattle.end_laws.specs.Ends.{Letters, nothing, one, several, Ends, unknown, both, join, rankOf, rank, total, at, ranks}
+use Rattle.end_laws.proofs.Values.{ends, withAnother}
 
 -- A summary can rise at most three times.
 pub rank-le : (x : Ends) → rank x ≤ 3
 rank-le x = go (x .empty) (x .letters)
   where
-    go : (a : Bool) (l : Letters) → rank (record { empty = a; letters = l }) ≤ 3
+    go : (a : Bool) (l : Letters) → rank (ends a l) ≤ 3
     go true nothing = omega arith
     go true (one a) = omega arith
     go true several = omega arith
@@ -31,22 +32,23 @@ both-rises nothing several = inr (omega arith)
 both-rises (one a) nothing = inl refl
 both-rises (one a) (one b) = go (eqb a b)
   where
-    go : (t : Bool) → (elim t as (λ x. Letters) [ true ↦ one a | false ↦ several ] ≡ one a) ⊎ (1 < rankOf (elim t as (λ x. Letters) [ true ↦ one a | false ↦ several ]))
+    go : (t : Bool) → (withAnother a t ≡ one a) ⊎ (1 < rankOf (withAnother a t))
     go true = inl refl
     go false = inr (omega arith)
 both-rises (one a) several = inr (omega arith)
 both-rises several m = inl refl
 
 -- A summary that is joined with another stays, or more is known.
-pub join-rises : (x y : Ends) → (join x y ≡ x) ⊎ (rank x < rank (join x y))
+join-rises : (x y : Ends) → (join x y ≡ x) ⊎ (rank x < rank (join x y))
 join-rises x y = go (x .empty) (y .empty) (x .letters) (both (x .letters) (y .letters)) (both-rises (x .letters) (y .letters))
   where
-    go : (a b : Bool) (l m : Letters) → (m ≡ l) ⊎ (rankOf l < rankOf m) → (_≡_ {A = Ends} (record { empty = a || b; letters = m }) (record { empty = a; letters = l })) ⊎ (rank (record { empty = a; letters = l }) < rank (record { empty = a || b; letters = m }))
-    go true b l m (inl e) = inl (λ i. record { empty = true; letters = e i })
+    go : (a b : Bool) (l m : Letters) → (m ≡ l) ⊎ (rankOf l < rankOf m)
+        → (ends (a || b) m ≡ ends a l) ⊎ (rank (ends a l) < rank (ends (a || b) m))
+    go true b l m (inl e) = inl (ap (ends true) e)
     go true b l m (inr h) = inr (omega arith)
     go false true l m (inl e) = inr (omega (arith, ap rankOf e))
     go false true l m (inr h) = inr (omega arith)
-    go false false l m (inl e) = inl (λ i. record { empty = false; letters = e i })
+    go false false l m (inl e) = inl (ap (ends false) e)
     go false false l m (inr h) = inr h
 
 -- Joining never lowers what is known.
@@ -59,27 +61,25 @@ join-same x y e = ⊎-elim (λ h. h) (λ h. absurd (omega arith)) (join-rises x 
 
 -- ---- all states together
 -- All states together can rise at most three times each.
-pub total-le : (n : ℕ) (K : ℕ → Ends) → total n K ≤ 3 * n
+total-le : (n : ℕ) (K : ℕ → Ends) → total n K ≤ 3 * n
 unfolding total
 total-le zero K = omega arith
 total-le (suc n) K = omega (arith, rank-le (K 0), total-le n (λ q. K (suc q)))
 
 -- Equal summaries are known as much.
-pub total-same : (n : ℕ) (K K′ : ℕ → Ends) → ((p : ℕ) → K′ p ≡ K p) → total n K′ ≡ total n K
+total-same : (n : ℕ) (K K′ : ℕ → Ends) → ((p : ℕ) → K′ p ≡ K p) → total n K′ ≡ total n K
 unfolding total
 total-same zero K K′ e = refl
 total-same (suc n) K K′ e = omega (arith, ap rank (e 0), total-same n (λ q. K (suc q)) (λ q. K′ (suc q)) (λ p. e (suc p)))
 
 -- What is known after the summary of one state is replaced.
-pub total-step : (n : ℕ) (K K′ : ℕ → Ends) (q : ℕ) → q < n → ((p : ℕ) → (p ≡ q → ⊥) → K′ p ≡ K p) → total n K′ + rank (K q) ≡ total n K + rank (K′ q)
+total-step : (n : ℕ) (K K′ : ℕ → Ends) (q : ℕ) → q < n → ((p : ℕ) → (p ≡ q → ⊥) → K′ p ≡ K p) → total n K′ + rank (K q) ≡ total n K + rank (K′ q)
 unfolding total
 total-step zero K K′ q h e = absurd (omega arith)
 total-step (suc n) K K′ zero h e = omega (arith, total-same n (λ q. K (suc q)) (λ q. K′ (suc q)) (λ p. e (suc p) (λ i. omega arith)))
-total-step (suc n) K K′ (suc q) h e = omega (arith, ap rank (e 0 (λ i. omega arith)), total-step n (λ p. K (suc p)) (λ p. K′ (suc p)) q (omega arith) (λ p ne. e (suc p) (λ i. ne (omega arith))))
-
--- The summary of one state is joined with another: it stays, or more is known of all.
-pub total-join : (n : ℕ) (K K′ : ℕ → Ends) (q : ℕ) (x : Ends) → q < n → ((p : ℕ) → (p ≡ q → ⊥) → K′ p ≡ K p) → K′ q ≡ join (K q) x → (K′ q ≡ K q) ⊎ (total n K < total n K′)
-total-join n K K′ q x h e j = ⊎-elim (λ i. inl (j ∙ i)) (λ r. inr (omega (arith, total-step n K K′ q h e, ap rank j))) (join-rises (K q) x)
+total-step (suc n) K K′ (suc q) h e =
+    let behind = total-step n (λ p. K (suc p)) (λ p. K′ (suc p)) q (omega arith) (λ p ne. e (suc p) (λ i. ne (omega arith))) in
+    omega (arith, ap rank (e 0 (λ i. omega arith)), behind)
 
 -- ---- the states of a list
 -- All states of a list together can rise at most three times each.
@@ -94,10 +94,11 @@ ranks-set vs q x h =
     ∙ ap (λ y. ranks vs + rank y) (getD-set-same vs q x unknown h)
 
 -- One state's summary is joined with another: nothing changes, or more is known.
-pub ranks-join : (vs : List Ends) (q : ℕ) (x : Ends) → (set vs q (join (at vs q) x) ≡ vs) ⊎ (ranks vs < ranks (set vs q (join (at vs q) x)))
+ranks-join : (vs : List Ends) (q : ℕ) (x : Ends) → (set vs q (join (at vs q) x) ≡ vs) ⊎ (ranks vs < ranks (set vs q (join (at vs q) x)))
 ranks-join vs q x = go (decLt q (length vs)) (join-rises (at vs q) x)
   where
-    go : Dec (q < length vs) → (join (at vs q) x ≡ at vs q) ⊎ (rank (at vs q) < rank (join (at vs q) x)) → (set vs q (join (at vs q) x) ≡ vs) ⊎ (ranks vs < ranks (set vs q (join (at vs q) x)))
+    go : Dec (q < length vs) → (join (at vs q) x ≡ at vs q) ⊎ (rank (at vs q) < rank (join (at vs q) x))
+        → (set vs q (join (at vs q) x) ≡ vs) ⊎ (ranks vs < ranks (set vs q (join (at vs q) x)))
     go (yes h) (inl e) = inl (ap (λ y. set vs q y) e ∙ set-getD vs q unknown)
     go (yes h) (inr r) = inr (omega (arith, ranks-set vs q (join (at vs q) x) h))
     go (no h) d = inl (set-out vs q (join (at vs q) x) (omega arith))

@@ -49,7 +49,7 @@ first-letter [] a e = absurd (Option·none-ne-some a e)
 first-letter (b ∷ w) a e = (w, ap (λ x. x ∷ w) (Option·some-injective _ _ e))
 
 -- A word that ends in a letter is that letter and the farther rest.
-pub end-letter : (side : Side) (w : Word) (a : ℕ) → end side w ≡ some a → (s : Word) × (w ≡ from side (a ∷ []) s)
+end-letter : (side : Side) (w : Word) (a : ℕ) → end side w ≡ some a → (s : Word) × (w ≡ from side (a ∷ []) s)
 end-letter left w a e = first-letter w a e
 end-letter right w a e =
     let h = first-letter (reverse w) a e in
@@ -66,9 +66,16 @@ empty-no-common left X h = empty-no-prefix X (subst (Holds X) (end-empty left (h
 empty-no-common right X h = empty-no-suffix X (subst (Holds X) (end-empty right (h .0) (h .2)) (h .1))
 
 -- A set with two different letters at a side has no common prefix, or suffix, there.
-pub letters-no-common : {I : Type 0} (side : Side) (X : I → Option Word) (a b : ℕ) → a ≢ b → Ending side X (some a) → Ending side X (some b) → NoCommon side X
-letters-no-common left X a b n h k = let u = letter-holds left X a h in let v = letter-holds left X b k in heads-no-prefix X a b (u .0) (v .0) n (u .1) (v .1)
-letters-no-common right X a b n h k = let u = letter-holds right X a h in let v = letter-holds right X b k in lasts-no-suffix X a b (u .0) (v .0) n (u .1) (v .1)
+pub letters-no-common : {I : Type 0} (side : Side) (X : I → Option Word) (a b : ℕ) → a ≢ b
+    → Ending side X (some a) → Ending side X (some b) → NoCommon side X
+letters-no-common left X a b n h k =
+    let u = letter-holds left X a h in
+    let v = letter-holds left X b k in
+    heads-no-prefix X a b (u .0) (v .0) n (u .1) (v .1)
+letters-no-common right X a b n h k =
+    let u = letter-holds right X a h in
+    let v = letter-holds right X b k in
+    lasts-no-suffix X a b (u .0) (v .0) n (u .1) (v .1)
 
 -- A set all of whose words have one letter at a side has a common prefix, or suffix, there.
 pub letter-common : {I : Type 0} (side : Side) (X : I → Option Word) (a : ℕ) → ((w : Word) → Holds X w → end side w ≡ some a) → NoCommon side X → ⊥

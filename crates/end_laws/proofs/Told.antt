@@ -10,14 +10,14 @@ use Rattle.machine.specs.Earliest.{L, Tails, HasWord}
 use Rattle.end_laws.specs.Ends.{Side, end, Letters, nothing, one, several, Ends, unknown, lettered, lives, clean, along}
 use Rattle.end_laws.specs.Meaning.{NoCommon, Ending, Allows, Fits, ShownLetters, Shown, Witnessed, Covering}
 use Rattle.end_laws.proofs.Sides.{empty-no-common, letters-no-common, letter-common}
-use Rattle.end_laws.proofs.Values.{lives-shown, allows-lives}
+use Rattle.end_laws.proofs.Values.{ends, lives-shown, allows-lives}
 use Rattle.end_laws.proofs.Rules.{along-shown, along-fits}
 
 -- A summary that knows no word is the unknown one.
 pub dead-unknown : (x : Ends) → lives x ≡ false → x ≡ unknown
 dead-unknown x e = go (x .empty) (x .letters) e
   where
-    go : (a : Bool) (l : Letters) → a || lettered l ≡ false → _≡_ {A = Ends} (record { empty = a; letters = l }) unknown
+    go : (a : Bool) (l : Letters) → a || lettered l ≡ false → ends a l ≡ unknown
     go true l e = absurd (true≢false e)
     go false nothing e = refl
     go false (one a) e = absurd (true≢false e)
@@ -28,17 +28,19 @@ module _ {I : Type 0} (side : Side) (X : I → Option Word) (x : Ends) where
   pub clean-no-common : Shown (Ending side X) x → clean x ≡ true → NoCommon side X
   clean-no-common h e = go (x .empty) (x .letters) (h .empty) (h .letters) e
     where
-      go : (a : Bool) (l : Letters) → (a ≡ true → Ending side X none) → ShownLetters (Ending side X) l → clean (record { empty = a; letters = l }) ≡ true → NoCommon side X
+      go : (a : Bool) (l : Letters) → (a ≡ true → Ending side X none) → ShownLetters (Ending side X) l
+          → clean (ends a l) ≡ true → NoCommon side X
       go true l f g e = empty-no-common side X (f refl)
       go false nothing f g e = absurd (false≢true e)
       go false (one a) f g e = absurd (false≢true e)
       go false several f g e = letters-no-common side X (g .0) (g .1) (g .2) (g .3) (g .4)
 
-  -- If all words fit a summary without the empty word and without several letters then there is a common prefix, or suffix; in a set with no word every word is one.
+  -- If all words fit a summary without the empty word and without several letters then there is a common prefix, or suffix;
+  -- in a set with no word every word is one.
   pub unclean-common : ((w : Word) → Holds X w → Fits side w x) → clean x ≡ false → NoCommon side X → ⊥
   unclean-common h e = go (x .empty) (x .letters) h e
     where
-      letter : (a : ℕ) (o : Option ℕ) → Allows (record { empty = false; letters = one a }) o → o ≡ some a
+      letter : (a : ℕ) (o : Option ℕ) → Allows (ends false (one a)) o → o ≡ some a
       letter a none k = absurd (false≢true k)
       letter a (some b) k = ap some k
 
@@ -46,7 +48,8 @@ module _ {I : Type 0} (side : Side) (X : I → Option Word) (x : Ends) where
       gone none k = absurd (false≢true k)
       gone (some b) k = absurd k
 
-      go : (a : Bool) (l : Letters) → ((w : Word) → Holds X w → Fits side w (record { empty = a; letters = l })) → clean (record { empty = a; letters = l }) ≡ false → NoCommon side X → ⊥
+      go : (a : Bool) (l : Letters) → ((w : Word) → Holds X w → Fits side w (ends a l))
+          → clean (ends a l) ≡ false → NoCommon side X → ⊥
       go true l f e = absurd (true≢false e)
       go false nothing f e = letter-common side X 0 (λ w h. gone (end side w) (f w h))
       go false (one a) f e = letter-common side X a (λ w h. letter a (end side w) (f w h))

@@ -7,9 +7,27 @@ use Prim.Native.Nat.{ℕ}
 use borrow.Author.Tests.{eqb-true, eqb-false}
 use lib.Dec.{eqb}
 use Rattle.words.specs.Word.{Word, Holds}
-use Rattle.end_laws.specs.Ends.{Side, left, right, end, Letters, nothing, one, several, Ends, unknown, alone, both, join, lettered, lives, through, before, beside}
+use Rattle.end_laws.specs.Ends.{Side, left, right, end, Letters, nothing, one, several, Ends, unknown, alone}
+use Rattle.end_laws.specs.Ends.{both, join, lettered, lives, through, before, beside}
 use Rattle.end_laws.specs.Meaning.{Ending, Among, Allows, Fits, ShownLetters, Shown}
 use Rattle.end_laws.proofs.Sides.{_or_, end-from}
+
+-- ---- names for what definitions compute to
+-- A summary by its two parts.
+abbrev pub ends : Bool → Letters → Ends
+ends a l = record { empty = a; letters = l }
+
+-- The letter a and another, by whether they are the same.
+abbrev pub withAnother : ℕ → Bool → Letters
+withAnother a t = elim t as (λ x. Letters) [ true ↦ one a | false ↦ several ]
+
+-- The summary of words x y where both are known.
+abbrev pub joint : Ends → Ends → Ends
+joint x y = record { empty = x .empty && y .empty; letters = through (x .empty) (x .letters) (y .letters) }
+
+-- The summary z of words x y, by whether x and y are known.
+abbrev pub ifBoth : Bool → Bool → Ends → Ends
+ifBoth a b z = elim (a && b) as (λ t. Ends) [ true ↦ z | false ↦ unknown ]
 
 -- ---- what shows a summary
 module _ (P : Option ℕ → Type 0) where
@@ -19,7 +37,7 @@ module _ (P : Option ℕ → Type 0) where
   both-shown (one a) nothing h k = h
   both-shown (one a) (one b) h k = go (eqb a b) refl
     where
-      go : (t : Bool) → eqb a b ≡ t → ShownLetters P (elim t as (λ x. Letters) [ true ↦ one a | false ↦ several ])
+      go : (t : Bool) → eqb a b ≡ t → ShownLetters P (withAnother a t)
       go true e = h
       go false e = (a, b, eqb-false a b e, h, k)
   both-shown (one a) several h k = k
@@ -27,7 +45,11 @@ module _ (P : Option ℕ → Type 0) where
 
   -- What shows two summaries shows that of the union.
   pub join-shown : (x y : Ends) → Shown P x → Shown P y → Shown P (join x y)
-  join-shown x y h k = record { empty = go (x .empty) (y .empty) (h .empty) (k .empty); letters = both-shown (x .letters) (y .letters) (h .letters) (k .letters) }
+  join-shown x y h k =
+      record {
+        empty = go (x .empty) (y .empty) (h .empty) (k .empty);
+        letters = both-shown (x .letters) (y .letters) (h .letters) (k .letters);
+      }
     where
       go : (a b : Bool) → (a ≡ true → P none) → (b ≡ true → P none) → a || b ≡ true → P none
       go true b f g e = f refl
@@ -59,28 +81,39 @@ shown-map P Q f (one a) h = f a h
 shown-map P Q f several h = (h .0, h .1, h .2, f (h .0) (h .3), f (h .1) (h .4))
 
 -- What shows x and what shows y shows x before y, if it shows the ends of the words x y.
-before-shown : (P Q R : Option ℕ → Type 0) → ((o p : Option ℕ) → P o → Q p → R (o or p)) → (x y : Ends) → Shown P x → Shown Q y → Shown R (before x y)
+before-shown : (P Q R : Option ℕ → Type 0) → ((o p : Option ℕ) → P o → Q p → R (o or p))
+    → (x y : Ends) → Shown P x → Shown Q y → Shown R (before x y)
 before-shown P Q R f x y h k = go (lives x) (lives y) (lives-shown Q y k)
   where
+    near : (o : Option ℕ) × Q o → ShownLetters R (x .letters)
+    near i = shown-map P R (λ a g. f (some a) (i .0) g (i .1)) (x .letters) (h .letters)
+
+    far : P none → ShownLetters R (y .letters)
+    far e = shown-map Q R (λ a g. f none (some a) e g) (y .letters) (k .letters)
+
     letters : (a : Bool) → (a ≡ true → P none) → (o : Option ℕ) × Q o → ShownLetters R (through a (x .letters) (y .letters))
-    letters true e i = both-shown R (x .letters) (y .letters) (shown-map P R (λ a g. f (some a) (i .0) g (i .1)) (x .letters) (h .letters)) (shown-map Q R (λ a g. f none (some a) (e refl) g) (y .letters) (k .letters))
-    letters false e i = shown-map P R (λ a g. f (some a) (i .0) g (i .1)) (x .letters) (h .letters)
+    letters true e i = both-shown R (x .letters) (y .letters) (near i) (far (e refl))
+    letters false e i = near i
 
     empty : (a b : Bool) → (a ≡ true → P none) → (b ≡ true → Q none) → a && b ≡ true → R none
     empty true b i j e = f none none (i refl) (j e)
     empty false b i j e = absurd (false≢true e)
 
-    go : (a b : Bool) → (b ≡ true → (o : Option ℕ) × Q o) → Shown R (elim (a && b) as (λ t. Ends) [ true ↦ record { empty = x .empty && y .empty; letters = through (x .empty) (x .letters) (y .letters) } | false ↦ unknown ])
+    go : (a b : Bool) → (b ≡ true → (o : Option ℕ) × Q o) → Shown R (ifBoth a b (joint x y))
     go true true i = record { empty = empty (x .empty) (y .empty) (h .empty) (k .empty); letters = letters (x .empty) (h .empty) (i refl) }
     go true false i = unknown-shown R
     go false b i = unknown-shown R
 
 -- Where words u v make a set, what shows the sets of u and of v shows it.
-pub beside-shown : {I J H : Type 0} (side : Side) (X : I → Option Word) (Y : J → Option Word) (Z : H → Option Word) → ((u v : Word) → Holds X u → Holds Y v → Holds Z (u ++ v)) → (x y : Ends) → Shown (Ending side X) x → Shown (Ending side Y) y → Shown (Ending side Z) (beside side x y)
+pub beside-shown : {I J H : Type 0} (side : Side) (X : I → Option Word) (Y : J → Option Word) (Z : H → Option Word)
+    → ((u v : Word) → Holds X u → Holds Y v → Holds Z (u ++ v))
+    → (x y : Ends) → Shown (Ending side X) x → Shown (Ending side Y) y → Shown (Ending side Z) (beside side x y)
 beside-shown left X Y Z f x y h k =
-    before-shown (Ending left X) (Ending left Y) (Ending left Z) (λ o p a b. (a .0 ++ b .0, f (a .0) (b .0) (a .1) (b .1), end-from left (a .0) (b .0) ∙ cc (a .2, b .2))) x y h k
+    before-shown (Ending left X) (Ending left Y) (Ending left Z)
+    (λ o p a b. (a .0 ++ b .0, f (a .0) (b .0) (a .1) (b .1), end-from left (a .0) (b .0) ∙ cc (a .2, b .2))) x y h k
 beside-shown right X Y Z f x y h k =
-    before-shown (Ending right Y) (Ending right X) (Ending right Z) (λ o p a b. (b .0 ++ a .0, f (b .0) (a .0) (b .1) (a .1), end-from right (a .0) (b .0) ∙ cc (a .2, b .2))) y x k h
+    before-shown (Ending right Y) (Ending right X) (Ending right Z)
+    (λ o p a b. (b .0 ++ a .0, f (b .0) (a .0) (b .1) (a .1), end-from right (a .0) (b .0) ∙ cc (a .2, b .2))) y x k h
 
 -- ---- what fits a summary
 -- A letter among the first letters is among both.
@@ -89,7 +122,7 @@ among-left a nothing m h = absurd h
 among-left a (one b) nothing h = h
 among-left a (one b) (one c) h = go (eqb b c)
   where
-    go : (t : Bool) → Among a (elim t as (λ x. Letters) [ true ↦ one b | false ↦ several ])
+    go : (t : Bool) → Among a (withAnother b t)
     go true = h
     go false = tt
 among-left a (one b) several h = tt
@@ -101,7 +134,7 @@ among-right a nothing m h = h
 among-right a (one b) nothing h = absurd h
 among-right a (one b) (one c) h = go (eqb b c) refl
   where
-    go : (t : Bool) → eqb b c ≡ t → Among a (elim t as (λ x. Letters) [ true ↦ one b | false ↦ several ])
+    go : (t : Bool) → eqb b c ≡ t → Among a (withAnother b t)
     go true e = h ∙ sym (eqb-true b c e)
     go false e = tt
 among-right a (one b) several h = tt
@@ -136,7 +169,7 @@ alone-allows (some a) = refl
 before-allows : (x y : Ends) (o p : Option ℕ) → Allows x o → Allows y p → Allows (before x y) (o or p)
 before-allows x y o p h k = go (lives x) (lives y) (allows-lives x o h) (allows-lives y p k)
   where
-    known : (o p : Option ℕ) → Allows x o → Allows y p → Allows (record { empty = x .empty && y .empty; letters = through (x .empty) (x .letters) (y .letters) }) (o or p)
+    known : (o p : Option ℕ) → Allows x o → Allows y p → Allows (joint x y) (o or p)
     known none none h k = cc (h, k)
     known none (some a) h k = subst (λ t. Among a (through t (x .letters) (y .letters))) (sym h) (among-right a (x .letters) (y .letters) k)
     known (some a) p h k = go (x .empty)
@@ -145,7 +178,7 @@ before-allows x y o p h k = go (lives x) (lives y) (allows-lives x o h) (allows-
         go true = among-left a (x .letters) (y .letters) h
         go false = h
 
-    go : (a b : Bool) → a ≡ true → b ≡ true → Allows (elim (a && b) as (λ t. Ends) [ true ↦ record { empty = x .empty && y .empty; letters = through (x .empty) (x .letters) (y .letters) } | false ↦ unknown ]) (o or p)
+    go : (a b : Bool) → a ≡ true → b ≡ true → Allows (ifBoth a b (joint x y)) (o or p)
     go true true i j = known o p h k
     go true false i j = absurd (false≢true j)
     go false b i j = absurd (false≢true i)

@@ -1,4 +1,5 @@
--- The judgement as a function that computes: sweeps over the rules until nothing changes, then the first condition that fails. Definitions only.
+-- The judgement as a function that computes: sweeps over the rules until nothing changes, then the first condition that fails.
+-- Definitions only.
 use mathlib.Core.Bool.{Bool, true, false, not}
 use mathlib.Core.List.{List, [], _∷_}
 use mathlib.Core.Option.{Option, none, some}

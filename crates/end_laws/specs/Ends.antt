@@ -1,4 +1,5 @@
--- The ends of words at a side: the summary of a set of words, and how a rule's summary follows from those of its states. Definitions only.
+-- The ends of words at a side: the summary of a set of words, and how a rule's summary follows from those of its states.
+-- Definitions only.
 use mathlib.Core.Bool.{Bool, true, false, not, _&&_, _||_}
 use mathlib.Core.List.{List, [], _∷_, reverse}
 use mathlib.Core.Option.{Option, none, some}
@@ -112,7 +113,8 @@ only nothing b = true
 only (one a) b = eqb a b
 only several b = false
 
--- The word behind a state can be pushed to its left: the state has the empty word, the word is not empty, and the state has no first letter but the word's own.
+-- The word behind a state can be pushed to its left: the state has the empty word, the word is not empty,
+-- and the state has no first letter but the word's own.
 abbrev pub stuck : Ends → Word → Bool
 stuck x [] = false
 stuck x (b ∷ u) = x .empty && only (x .letters) b

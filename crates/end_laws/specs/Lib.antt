@@ -2,5 +2,4 @@
 pub mod Ends
 pub mod Meaning
 pub mod Companion
-pub mod Made
 pub mod Cases

@@ -1,7 +1,7 @@
 -- What a summary says of a set of words: what it claims is shown by words, and all words fit it. Definitions only.
 use mathlib.Core.Path.{_≡_}
 use mathlib.Core.Bool.{true, false}
-use mathlib.Core.List.{List, [], _∷_}
+use mathlib.Core.List.{List}
 use mathlib.Core.Logic.{_≢_}
 use mathlib.Core.Option.{Option, none, some}
 use Prim.Native.Nat.{ℕ}
@@ -31,7 +31,8 @@ abbrev pub Allows : Ends → Option ℕ → Type 0
 Allows x none = x .empty ≡ true
 Allows x (some a) = Among a (x .letters)
 
--- A word fits a summary at a side: if it is empty then the summary has the empty word, and if it ends in a letter there, that letter is among the summary's.
+-- A word fits a summary at a side: if it is empty then the summary has the empty word, and if it ends in a letter there,
+-- that letter is among the summary's.
 abbrev pub Fits : Side → Word → Ends → Type 0
 Fits side w x = Allows x (end side w)
 
@@ -69,8 +70,3 @@ Unstuck K cs = Each (λ c ds. stuck (K (c .state)) (c .after) ≡ false) cs
 -- The states of the rest of a rule have no common prefix.
 abbrev pub Apart : Table → List Child → Type 0
 Apart M cs = Each (λ c ds. NoPrefix (L M (c .state))) cs
-
--- The word u behind state q can be pushed to its left: L(q) has the empty word, u is not empty, and no word of L(q) has another first letter than u's own.
-abbrev pub Pushed : Table → ℕ → Word → Type 0
-Pushed M q [] = ⊥
-Pushed M q (b ∷ u) = Holds (L M q) [] × ((a : ℕ) → Ending left (L M q) (some a) → a ≡ b)

@@ -40,6 +40,10 @@ find-above (r ∷ rs) q f h = find-past-symbol r rs q f (λ e. omega (arith, h .
 abbrev BySymbol : List Row → Type 0
 BySymbol rs = Ordered (λ r s. r .symbol < s .symbol) rs
 
+-- A symbol below that of the first of such rows is below all of theirs.
+all-above : (x y : Row) (ys : List Row) → x .symbol < y .symbol → BySymbol (y ∷ ys) → All (λ s. x .symbol < s .symbol) (y ∷ ys)
+all-above x y ys l o = (l, all-map (λ s. y .symbol < s .symbol) (λ s. x .symbol < s .symbol) (λ s k. omega arith) ys (o .0))
+
 module _ (R : ℕ → ℕ → Type 0) where
   -- A rule on the left has one on the right.
   not-left-alone : (r : Rule) (a b : Option Rule) → a ≡ some r → b ≡ none → Rules R a b → ⊥
@@ -50,32 +54,46 @@ module _ (R : ℕ → ℕ → Type 0) where
   not-right-alone r a b e d h = rw (e, d) at h
 
   module _ (q r : ℕ) where
+    -- The rules match for every symbol.
+    abbrev Matching : List Row → List Row → Type 0
+    Matching xs ys = (f : ℕ) → Rules R (find xs q f) (find ys r f)
+
     -- Where the rules match for every symbol, the left rows do not begin with a smaller symbol.
-    not-sooner : (x y : Row) (xs ys : List Row) → x .state ≡ q → BySymbol (y ∷ ys) → ((f : ℕ) → Rules R (find (x ∷ xs) q f) (find (y ∷ ys) r f)) → x .symbol < y .symbol → ⊥
+    not-sooner : (x y : Row) (xs ys : List Row) → x .state ≡ q → BySymbol (y ∷ ys) → Matching (x ∷ xs) (y ∷ ys) → x .symbol < y .symbol → ⊥
     not-sooner x y xs ys d o h l =
-        not-left-alone (x .rule) (find (x ∷ xs) q (x .symbol)) (find (y ∷ ys) r (x .symbol)) (find-first x xs q (x .symbol) d refl)
-        (find-above (y ∷ ys) r (x .symbol) (l, all-map (λ s. y .symbol < s .symbol) (λ s. x .symbol < s .symbol) (λ s k. omega arith) ys (o .0))) (h (x .symbol))
+        not-left-alone (x .rule) (find (x ∷ xs) q (x .symbol)) (find (y ∷ ys) r (x .symbol))
+        (find-first x xs q (x .symbol) d refl) (find-above (y ∷ ys) r (x .symbol) (all-above x y ys l o)) (h (x .symbol))
 
     -- The right rows do not either.
-    not-later : (x y : Row) (xs ys : List Row) → y .state ≡ r → BySymbol (x ∷ xs) → ((f : ℕ) → Rules R (find (x ∷ xs) q f) (find (y ∷ ys) r f)) → y .symbol < x .symbol → ⊥
+    not-later : (x y : Row) (xs ys : List Row) → y .state ≡ r → BySymbol (x ∷ xs) → Matching (x ∷ xs) (y ∷ ys) → y .symbol < x .symbol → ⊥
     not-later x y xs ys d o h l =
         not-right-alone (y .rule) (find (x ∷ xs) q (y .symbol)) (find (y ∷ ys) r (y .symbol))
-        (find-above (x ∷ xs) q (y .symbol) (l, all-map (λ s. x .symbol < s .symbol) (λ s. y .symbol < s .symbol) (λ s k. omega arith) xs (o .0))) (find-first y ys r (y .symbol) d refl) (h (y .symbol))
+        (find-above (x ∷ xs) q (y .symbol) (all-above y x xs l o)) (find-first y ys r (y .symbol) d refl) (h (y .symbol))
 
     -- Behind two rows of one symbol the rules match again.
-    match-rest : (x y : Row) (xs ys : List Row) → BySymbol (x ∷ xs) → BySymbol (y ∷ ys) → x .symbol ≡ y .symbol → ((f : ℕ) → Rules R (find (x ∷ xs) q f) (find (y ∷ ys) r f)) → (f : ℕ) → Rules R (find xs q f) (find ys r f)
+    match-rest : (x y : Row) (xs ys : List Row) → BySymbol (x ∷ xs) → BySymbol (y ∷ ys) → x .symbol ≡ y .symbol
+        → Matching (x ∷ xs) (y ∷ ys) → Matching xs ys
     match-rest x y xs ys o p e h f =
         elim (ℕ-discrete (x .symbol) f) [
           | yes d ↦
-              rw (find-above xs q f (subst (λ (g : ℕ). All (λ s. g < s .symbol) xs) d (o .0)), find-above ys r f (subst (λ (g : ℕ). All (λ s. g < s .symbol) ys) (sym e ∙ d) (p .0))) tt
+              let left = find-above xs q f (subst (λ (g : ℕ). All (λ s. g < s .symbol) xs) d (o .0)) in
+              let right = find-above ys r f (subst (λ (g : ℕ). All (λ s. g < s .symbol) ys) (sym e ∙ d) (p .0)) in
+              rw (left, right) tt
           | no n ↦ rw (find-past-symbol x xs q f n, find-past-symbol y ys r f (λ d. n (e ∙ d))) at (h f)
         ]
 
     -- Rows that rise by symbol and have matching rules for every symbol are alike in turn.
-    rows-alike : (xs ys : List Row) → All (λ s. s .state ≡ q) xs → All (λ s. s .state ≡ r) ys → BySymbol xs → BySymbol ys → ((f : ℕ) → Rules R (find xs q f) (find ys r f)) → Pairs (RowsLike R) xs ys
+    rows-alike : (xs ys : List Row) → All (λ s. s .state ≡ q) xs → All (λ s. s .state ≡ r) ys → BySymbol xs → BySymbol ys
+        → Matching xs ys → Pairs (RowsLike R) xs ys
     rows-alike [] [] c d o p h = tt
-    rows-alike [] (y ∷ ys) c d o p h = absurd (not-right-alone (y .rule) (find [] q (y .symbol)) (find (y ∷ ys) r (y .symbol)) (find-above [] q (y .symbol) tt) (find-first y ys r (y .symbol) (d .0) refl) (h (y .symbol)))
-    rows-alike (x ∷ xs) [] c d o p h = absurd (not-left-alone (x .rule) (find (x ∷ xs) q (x .symbol)) (find [] r (x .symbol)) (find-first x xs q (x .symbol) (c .0) refl) (find-above [] r (x .symbol) tt) (h (x .symbol)))
+    rows-alike [] (y ∷ ys) c d o p h =
+        absurd
+        (not-right-alone (y .rule) (find [] q (y .symbol)) (find (y ∷ ys) r (y .symbol))
+        (find-above [] q (y .symbol) tt) (find-first y ys r (y .symbol) (d .0) refl) (h (y .symbol)))
+    rows-alike (x ∷ xs) [] c d o p h =
+        absurd
+        (not-left-alone (x .rule) (find (x ∷ xs) q (x .symbol)) (find [] r (x .symbol))
+        (find-first x xs q (x .symbol) (c .0) refl) (find-above [] r (x .symbol) tt) (h (x .symbol)))
     rows-alike (x ∷ xs) (y ∷ ys) c d o p h =
         elim (decLt (x .symbol) (y .symbol)) [
           | yes l ↦ absurd (not-sooner x y xs ys (c .0) p h l)
@@ -84,7 +102,8 @@ module _ (R : ℕ → ℕ → Type 0) where
                 | yes l ↦ absurd (not-later x y xs ys (d .0) o h l)
                 | no n ↦
                     let e : x .symbol ≡ y .symbol = omega arith in
-                    let k : Rules R (some (x .rule)) (some (y .rule)) = rw (find-first x xs q (x .symbol) (c .0) refl, find-first y ys r (x .symbol) (d .0) (sym e)) at (h (x .symbol)) in
+                    let k : Rules R (some (x .rule)) (some (y .rule)) =
+                    rw (find-first x xs q (x .symbol) (c .0) refl, find-first y ys r (x .symbol) (d .0) (sym e)) at (h (x .symbol)) in
                     (record { symbol = e; first = k .0; rest = k .1 }, rows-alike xs ys (c .1) (d .1) (o .1) (p .1) (match-rest x y xs ys o p e h))
               ]
         ]
@@ -102,7 +121,9 @@ rowsOf-bySymbol rows h q = go (rowsOf rows q) (rowsOf-state rows q) (rowsOf-orde
     go (r ∷ rs) k l = (after r (k .0) rs (k .1) (l .0), go rs (k .1) (l .1))
 
 -- The rows of two states with matching rules for every symbol are alike in turn.
-pub rowsOf-alike : (R : ℕ → ℕ → Type 0) (rows rows′ : List Row) → Rising rows → Rising rows′ → (q r : ℕ) → ((f : ℕ) → Rules R (find rows q f) (find rows′ r f)) → Pairs (RowsLike R) (rowsOf rows q) (rowsOf rows′ r)
+pub rowsOf-alike : (R : ℕ → ℕ → Type 0) (rows rows′ : List Row) → Rising rows → Rising rows′ → (q r : ℕ)
+    → ((f : ℕ) → Rules R (find rows q f) (find rows′ r f))
+    → Pairs (RowsLike R) (rowsOf rows q) (rowsOf rows′ r)
 rowsOf-alike R rows rows′ h h′ q r m =
-    rows-alike R q r (rowsOf rows q) (rowsOf rows′ r) (rowsOf-state rows q) (rowsOf-state rows′ r) (rowsOf-bySymbol rows h q) (rowsOf-bySymbol rows′ h′ r)
-    (λ f. rw (rowsOf-find rows q f, rowsOf-find rows′ r f) at (m f))
+    rows-alike R q r (rowsOf rows q) (rowsOf rows′ r) (rowsOf-state rows q) (rowsOf-state rows′ r)
+    (rowsOf-bySymbol rows h q) (rowsOf-bySymbol rows′ h′ r) (λ f. rw (rowsOf-find rows q f, rowsOf-find rows′ r f) at (m f))

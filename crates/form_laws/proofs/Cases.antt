@@ -1,6 +1,6 @@
 -- Forms worked out: the listing of document 01, and a table whose numbers show the order of the visit.
 use mathlib.Core.Path.{_≡_, refl, sym, ap, _∙_}
-use mathlib.Core.Bool.{true, false≢true}
+use mathlib.Core.Bool.{true, false, false≢true}
 use mathlib.Core.List.{[], _∷_, head-eq-of-cons-eq}
 use mathlib.Core.Logic.{_↔_}
 use mathlib.Core.Option.{some, Option·some-injective, Option·some-ne-none}
@@ -51,19 +51,34 @@ left-apart = (λ e. Option·some-ne-none [] (e (node 1 ∅)), λ e. Option·some
 alike : Test
 alike q r = eqb (q - 1) (r - 1)
 
+-- The test's yes for a state and itself, and its no for states that are not the same.
+self : (q : ℕ) → (true ≡ true) ↔ Same left left q q
+self q = (λ e t. refl, λ e. refl)
+
+other : {A : Type 0} → (A → ⊥) → (false ≡ true) ↔ A
+other n = (λ e. absurd (false≢true e), λ a. absurd (n a))
+
+-- The test is right about state p and any other.
+abbrev RightOf : ℕ → Type 0
+RightOf p = (s : ℕ) → s < 3 → (alike p s ≡ true) ↔ Same left left p s
+
+right-of-0 : RightOf 0
+unfolding alike
+right-of-0 = firsts (λ s. (alike 0 s ≡ true) ↔ Same left left 0 s) 3 (self 0, ((λ e. left-same, λ e. refl), (other (left-apart .0), tt)))
+
+right-of-1 : RightOf 1
+unfolding alike
+right-of-1 = firsts (λ s. (alike 1 s ≡ true) ↔ Same left left 1 s) 3 ((λ e t. sym (left-same t), λ e. refl), (self 1, (other (left-apart .1), tt)))
+
+right-of-2 : RightOf 2
+unfolding alike
+right-of-2 =
+    firsts (λ s. (alike 2 s ≡ true) ↔ Same left left 2 s) 3
+    (other (λ e. left-apart .0 (λ t. sym (e t))), (other (λ e. left-apart .1 (λ t. sym (e t))), (self 2, tt)))
+
 -- This decides sameness.
 left-decides : Decides alike left
-unfolding alike
-left-decides q r k l =
-    let same-as : (p : ℕ) → p < 3 → (s : ℕ) → s < 3 → (alike p s ≡ true) ↔ Same left left p s =
-    firsts (λ p. (s : ℕ) → s < 3 → (alike p s ≡ true) ↔ Same left left p s) 3 (
-      firsts (λ s. (alike 0 s ≡ true) ↔ Same left left 0 s) 3 ((λ e t. refl, λ e. refl), ((λ e. left-same, λ e. refl), ((λ e. absurd (false≢true e), λ e. absurd (left-apart .0 e)), tt))),
-      (
-        firsts (λ s. (alike 1 s ≡ true) ↔ Same left left 1 s) 3 ((λ e t. sym (left-same t), λ e. refl), ((λ e t. refl, λ e. refl), ((λ e. absurd (false≢true e), λ e. absurd (left-apart .1 e)), tt))),
-        (firsts (λ s. (alike 2 s ≡ true) ↔ Same left left 2 s) 3 ((λ e. absurd (false≢true e), λ e. absurd (left-apart .0 (λ t. sym (e t)))), ((λ e. absurd (false≢true e), λ e. absurd (left-apart .1 (λ t. sym (e t)))), ((λ e t. refl, λ e. refl), tt))), tt),
-      ),
-    ) in
-    same-as q k r l
+left-decides q r k l = firsts RightOf 3 (right-of-0, (right-of-1, (right-of-2, tt))) q k r l
 
 -- The listing: the form of the table on the left is the table on the right.
 pub listing : IsForm left right
@@ -80,7 +95,16 @@ ways =
       before = [];
       start = 0;
       after = [];
-      rows = row 0 0 [] (to 3 [] ∷ to 2 [] ∷ []) ∷ row 0 1 [] (to 1 [] ∷ []) ∷ row 0 2 (0 ∷ []) [] ∷ row 1 2 (1 ∷ []) [] ∷ row 2 2 (2 ∷ []) [] ∷ row 3 1 [] (to 4 [] ∷ []) ∷ row 3 2 (3 ∷ []) [] ∷ row 4 2 (4 ∷ []) [] ∷ [];
+      rows =
+          row 0 0 [] (to 3 [] ∷ to 2 [] ∷ []) ∷
+          row 0 1 [] (to 1 [] ∷ []) ∷
+          row 0 2 (0 ∷ []) [] ∷
+          row 1 2 (1 ∷ []) [] ∷
+          row 2 2 (2 ∷ []) [] ∷
+          row 3 1 [] (to 4 [] ∷ []) ∷
+          row 3 2 (3 ∷ []) [] ∷
+          row 4 2 (4 ∷ []) [] ∷
+          [];
     }
 
 -- Left to right, then by symbol, and all child states of a state before those of the next: 0, 3, 2, 1, 4.
@@ -92,7 +116,16 @@ numbered =
       before = [];
       start = 0;
       after = [];
-      rows = row 0 0 [] (to 1 [] ∷ to 2 [] ∷ []) ∷ row 0 1 [] (to 3 [] ∷ []) ∷ row 0 2 (0 ∷ []) [] ∷ row 1 1 [] (to 4 [] ∷ []) ∷ row 1 2 (3 ∷ []) [] ∷ row 2 2 (2 ∷ []) [] ∷ row 3 2 (1 ∷ []) [] ∷ row 4 2 (4 ∷ []) [] ∷ [];
+      rows =
+          row 0 0 [] (to 1 [] ∷ to 2 [] ∷ []) ∷
+          row 0 1 [] (to 3 [] ∷ []) ∷
+          row 0 2 (0 ∷ []) [] ∷
+          row 1 1 [] (to 4 [] ∷ []) ∷
+          row 1 2 (3 ∷ []) [] ∷
+          row 2 2 (2 ∷ []) [] ∷
+          row 3 2 (1 ∷ []) [] ∷
+          row 4 2 (4 ∷ []) [] ∷
+          [];
     }
 
 -- Each state has its own number as its word on the lone symbol 2.

@@ -17,11 +17,13 @@ use Rattle.form_laws.proofs.Rows.{each-all}
 use Rattle.form_laws.proofs.Renumber.{find-children}
 use Rattle.form_laws.proofs.Meaning.{listed-kids, form-word}
 use Rattle.form_laws.proofs.Visit.{same-self}
-use Rattle.form_laws.proofs.Order.{Numbered, listed-inside, order-same}
+use Rattle.form_laws.proofs.Order.{InOrder, listed-inside, order-same}
 use Rattle.form_laws.proofs.Reach.{start-numbered}
 
 -- What holds of all child states of a rest, and of any state with the same words, holds of those of a matching rest.
-rests-all : (M : Table) (P : ℕ → Type 0) → ((p q : ℕ) → q < M .states → Same M M p q → P p → P q) → (cs ds : List Child) → Rests (Same M M) cs ds → All (λ d. d .state < M .states) ds → All (λ c. P (c .state)) cs → All (λ d. P (d .state)) ds
+rests-all : (M : Table) (P : ℕ → Type 0) → ((p q : ℕ) → q < M .states → Same M M p q → P p → P q)
+    → (cs ds : List Child) → Rests (Same M M) cs ds → All (λ d. d .state < M .states) ds
+    → All (λ c. P (c .state)) cs → All (λ d. P (d .state)) ds
 rests-all M P f [] [] r l h = tt
 rests-all M P f [] (d ∷ ds) r l h = absurd r
 rests-all M P f (c ∷ cs) [] r l h = absurd r
@@ -29,7 +31,7 @@ rests-all M P f (c ∷ cs) (d ∷ ds) r l h = (f (c .state) (d .state) (l .0) (r
 
 module _ (same : Test) (M : Table) (W : WellMade M) (D : Decides same M) where
   -- A state with the words of a known state is known.
-  same-numbered : (p q : ℕ) → q < M .states → Same M M p q → Numbered same M p → Numbered same M q
+  same-numbered : (p q : ℕ) → q < M .states → Same M M p q → InOrder same M p → InOrder same M q
   same-numbered p q l e n =
       let i : ℕ = numberOf same M p in
       let inside = listed-inside same M W (same-self same M D) i (n .1) in
@@ -37,8 +39,10 @@ module _ (same : Test) (M : Table) (W : WellMade M) (D : Decides same M) where
 
   module _ (E : Earliest M) where
     -- The child states of a known state are known.
-    numbered-child : (q f : ℕ) (r : Rule) → Numbered same M q → find (M .rows) q f ≡ some r → All (λ c. Numbered same M (c .state)) (r .rest)
-    numbered-child q f r n e = go (find (M .rows) p f) refl (subst (λ (o : Option Rule). Rules (Same M M) (find (M .rows) p f) o) e (agree M M W W E E p q (order-same same M W D q (n .0) (n .1)) f))
+    numbered-child : (q f : ℕ) (r : Rule) → InOrder same M q → find (M .rows) q f ≡ some r → All (λ c. InOrder same M (c .state)) (r .rest)
+    numbered-child q f r n e =
+        let match = agree M M W W E E p q (order-same same M W D q (n .0) (n .1)) f in
+        go (find (M .rows) p f) refl (subst (λ (o : Option Rule). Rules (Same M M) (find (M .rows) p f) o) e match)
       where
         i : ℕ
         i = numberOf same M q
@@ -46,16 +50,18 @@ module _ (same : Test) (M : Table) (W : WellMade M) (D : Decides same M) where
         p : ℕ
         p = listed same M i
 
-        go : (a : Option Rule) → find (M .rows) p f ≡ a → Rules (Same M M) a (some r) → All (λ c. Numbered same M (c .state)) (r .rest)
+        go : (a : Option Rule) → find (M .rows) p f ≡ a → Rules (Same M M) a (some r) → All (λ c. InOrder same M (c .state)) (r .rest)
         go none d h = absurd h
         go (some a) d h =
-            rests-all M (Numbered same M) same-numbered (a .rest) (r .rest) (h .1) (each-all (λ c. c .state < M .states) (r .rest) (find-states M W q f r e))
-            (find-children (Numbered same M) (M .rows) p f a (listed-kids same M W D i (n .1)) d)
+            rests-all M (InOrder same M) same-numbered (a .rest) (r .rest) (h .1)
+            (each-all (λ c. c .state < M .states) (r .rest) (find-states M W q f r e))
+            (find-children (InOrder same M) (M .rows) p f a (listed-kids same M W D i (n .1)) d)
 
     -- Every reached state is known.
-    reached-numbered : (q : ℕ) → Reached M q → Numbered same M q
+    reached-numbered : (q : ℕ) → Reached M q → InOrder same M q
     reached-numbered q (initial e) = rw (← e) (start-numbered same M W (same-self same M D))
-    reached-numbered q (below {q = p} {r = r} f h e m d) = rw (← d) (all-mem (λ c. Numbered same M (c .state)) (r .rest) (numbered-child p f r (reached-numbered p h) e) m)
+    reached-numbered q (below {q = p} {r = r} f h e m d) =
+        rw (← d) (all-mem (λ c. InOrder same M (c .state)) (r .rest) (numbered-child p f r (reached-numbered p h) e) m)
 
     -- Every state of an earliest table has a number in the form.
     pub earliest-known : (q : ℕ) → q < M .states → numberOf same M q < length (order same M)

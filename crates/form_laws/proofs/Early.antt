@@ -13,12 +13,11 @@ use Rattle.machine.specs.Earliest.{L, Tails, Reached, initial, below, E2, LeftR
 use Rattle.machine.specs.Form.{Test, Decides, order, rowsOf, renumber, formOf}
 use Rattle.machine.proofs.Find.{every-at}
 use Rattle.form_laws.specs.Listed.{listed, numberOf, numberedRest, numberedRule}
-use Rattle.form_laws.proofs.Lists.{All, all-map, all-both}
-use Rattle.form_laws.proofs.Rows.{rowsOf-all, all-childStates}
+use Rattle.form_laws.proofs.Lists.{All}
 use Rattle.form_laws.proofs.Visit.{Parent, same-self}
-use Rattle.form_laws.proofs.Order.{Numbered, order-listed, listed-inside, order-number}
+use Rattle.form_laws.proofs.Order.{InOrder, order-listed, listed-inside, order-number}
 use Rattle.form_laws.proofs.Reach.{at-all, KidOf, kid-of}
-use Rattle.form_laws.proofs.Meaning.{form-find, listed-kids, form-word, form-words, form-start}
+use Rattle.form_laws.proofs.Meaning.{form-find, listed-rows, form-word, form-words, form-start}
 use Rattle.form_laws.proofs.Made.{renumbered-all}
 
 module _ {I : Type 0} (X Y : I → Option Word) (e : (i : I) → Y i ≡ X i) where
@@ -54,19 +53,20 @@ module _ (same : Test) (M : Table) (W : WellMade M) (D : Decides same M) where
       (order-listed same M W (same-self same M D) .parents j l)
 
   -- The rest of a rule of a listed state meets E2 by number if it does in the table.
-  lefts-numbered : (cs : List Child) → All (λ c. Numbered same M (c .state)) cs → Each (λ c ds. NoPrefix (Tails M (c ∷ ds))) cs → Each (λ c ds. NoPrefix (Tails (formOf same M) (c ∷ ds))) (numberedRest (numberOf same M) cs)
+  lefts-numbered : (cs : List Child) → All (λ c. InOrder same M (c .state)) cs → Each (λ c ds. NoPrefix (Tails M (c ∷ ds))) cs
+      → Each (λ c ds. NoPrefix (Tails (formOf same M) (c ∷ ds))) (numberedRest (numberOf same M) cs)
   lefts-numbered [] h k = tt
   lefts-numbered (c ∷ cs) h k =
-      (equal-no-prefix (Tails M (c ∷ cs)) (Tails (formOf same M) (numberedRest (numberOf same M) (c ∷ cs))) (λ ts. form-words same M W D ts (c ∷ cs) h) (k .0), lefts-numbered cs (h .1) (k .1))
+      let numbered : List Child = numberedRest (numberOf same M) (c ∷ cs) in
+      let here = equal-no-prefix (Tails M (c ∷ cs)) (Tails (formOf same M) numbered) (λ ts. form-words same M W D ts (c ∷ cs) h) (k .0) in
+      (here, lefts-numbered cs (h .1) (k .1))
 
   -- The rules of a listed state meet E2 in the form.
-  lefts-listed : E2 M → (i : ℕ) → i < length (order same M) → All (λ r. LeftRule (formOf same M) (renumber (numberOf same M) i r .rule)) (rowsOf (M .rows) (listed same M i))
+  lefts-listed : E2 M → (i : ℕ) → i < length (order same M)
+      → All (λ r. LeftRule (formOf same M) (renumber (numberOf same M) i r .rule)) (rowsOf (M .rows) (listed same M i))
   lefts-listed E i l =
-      let q : ℕ = listed same M i in
-      all-map (λ r. All (λ c. Numbered same M (c .state)) (r .rule .rest) × LeftRule M (r .rule)) (λ r. LeftRule (formOf same M) (renumber (numberOf same M) i r .rule)) (λ r h. lefts-numbered (r .rule .rest) (h .0) (h .1)) (rowsOf (M .rows) q)
-      (all-both (λ r. All (λ c. Numbered same M (c .state)) (r .rule .rest)) (λ r. LeftRule M (r .rule)) (rowsOf (M .rows) q)
-      (all-childStates (Numbered same M) (rowsOf (M .rows) q) (listed-kids same M W D i l))
-      (rowsOf-all (λ r. LeftRule M (r .rule)) (M .rows) q (at-all (λ r. LeftRule M (r .rule)) (M .rows) (E .rules))))
+      listed-rows same M W D (λ r. LeftRule M (r .rule)) (λ r. LeftRule (formOf same M) (renumber (numberOf same M) i r .rule))
+      (at-all (λ r. LeftRule M (r .rule)) (M .rows) (E .rules)) i l (λ r e h. lefts-numbered (r .rule .rest) h e)
 
   -- The form of an earliest table is earliest.
   pub form-earliest : Earliest M → Earliest (formOf same M)
@@ -76,7 +76,9 @@ module _ (same : Test) (M : Table) (W : WellMade M) (D : Decides same M) where
       record {
         trimmed = record {
           reached = λ i l. reached-below (suc i) i (omega arith) l;
-          lives = λ i l. let h = E .trimmed .lives (listed same M i) (inside i l) in (h .0, (h .1 .0, form-word same M W D (h .1 .0) i l ∙ h .1 .1));
+          lives = λ i l.
+              let h = E .trimmed .lives (listed same M i) (inside i l) in
+              (h .0, (h .1 .0, form-word same M W D (h .1 .0) i l ∙ h .1 .1));
         };
         e1 = record {
           prefix = λ i l. equal-no-prefix (L M (listed same M i)) (L (formOf same M) i) (λ t. form-word same M W D t i l)
@@ -85,8 +87,10 @@ module _ (same : Test) (M : Table) (W : WellMade M) (D : Decides same M) where
               (E .e1 .suffix (listed same M i) (inside i l));
         };
         e2 = record {
-          start = equal-no-prefix (λ t. L M (M .start) t ⊕ some (M .after)) (λ t. L (formOf same M) zero t ⊕ some (M .after)) (λ t. ap (λ o. o ⊕ some (M .after)) (form-start same M W D t)) (E .e2 .start);
-          rules = every-at (λ r. LeftRule (formOf same M) (r .rule)) (formOf same M .rows) (renumbered-all (numberOf same M) (M .rows) (λ r. LeftRule (formOf same M) (r .rule)) zero (order same M)
+          start = equal-no-prefix (λ t. L M (M .start) t ⊕ some (M .after)) (λ t. L (formOf same M) zero t ⊕ some (M .after))
+              (λ t. ap (λ o. o ⊕ some (M .after)) (form-start same M W D t)) (E .e2 .start);
+          rules = every-at (λ r. LeftRule (formOf same M) (r .rule)) (formOf same M .rows)
+              (renumbered-all (numberOf same M) (M .rows) (λ r. LeftRule (formOf same M) (r .rule)) zero (order same M)
               (λ i l. lefts-listed (E .e2) i l));
         };
       }

@@ -6,9 +6,11 @@ use Prim.Native.Nat.{ℕ, _<_}
 use Rattle.machine.specs.Machine.{Table, WellMade, output}
 use Rattle.machine.specs.Earliest.{Earliest}
 use Rattle.machine.specs.Same.{Same, Agree}
-use Rattle.machine.specs.Form.{formOf, IsForm}
+use Rattle.machine.specs.Form.{rowsOf, formOf, IsForm}
 use Rattle.machine.proofs.Agreement.{agree, agree-start}
 use Rattle.machine.proofs.Twins.{Two, match-two}
+use Rattle.form_laws.specs.Pairs.{Pairs}
+use Rattle.form_laws.proofs.Lockstep.{RowsLike}
 use Rattle.form_laws.proofs.Meaning.{form-apart, form-agrees}
 use Rattle.form_laws.proofs.Made.{form-made}
 use Rattle.form_laws.proofs.Early.{form-earliest}
@@ -48,13 +50,18 @@ module _ (M N F G : Table) (W : WellMade M) (W′ : WellMade N) (f : IsForm M F)
   forms-arities e = sym (isForm-arities M F W f) ∙ ap (λ H. H .arities) e ∙ isForm-arities N G W′ g
 
   module _ (E : Earliest M) (E′ : Earliest N) where
+    -- States with the same words have rows that are alike in turn.
+    rows-pairs : (q r : ℕ) → Two M N (Same M N) q r → Pairs (RowsLike (Two M N (Same M N))) (rowsOf (M .rows) q) (rowsOf (N .rows) r)
+    rows-pairs q r h =
+        let match = match-two M N (Same M N) W W′ q r (agree M N W W′ E E′ q r (h .2)) in
+        rowsOf-alike (Two M N (Same M N)) (M .rows) (N .rows) (W .rising) (W′ .rising) q r match
+
     -- Earliest tables with one symbol list that give every tree the same word have one form.
     pub words-forms : M .arities ≡ N .arities → Agree M N → F ≡ G
     words-forms a e =
         let b = agree-start M N W W′ E E′ e in
         let one : formOf (f .same) M ≡ formOf (g .same) N =
-        forms-equal M N (f .same) (g .same) W W′ (f .decides) (g .decides) (Two M N (Same M N)) (λ q r h. h)
-        (λ q r h. rowsOf-alike (Two M N (Same M N)) (M .rows) (N .rows) (W .rising) (W′ .rising) q r (match-two M N (Same M N) W W′ q r (agree M N W W′ E E′ q r (h .2))))
+        forms-equal M N (f .same) (g .same) W W′ (f .decides) (g .decides) (Two M N (Same M N)) (λ q r h. h) rows-pairs
         (W .start, W′ .start, b .2) a (b .0) (b .1) in
         f .form ∙ one ∙ sym (g .form)
 
@@ -68,4 +75,5 @@ module _ (M N F G : Table) (W : WellMade M) (W′ : WellMade N) (f : IsForm M F)
 
 -- The form of a form is that form.
 pub form-of-form : (M F G : Table) → WellMade M → Earliest M → IsForm M F → IsForm F G → G ≡ F
-form-of-form M F G W E f g = words-forms F M G F (isForm-made M F W f) W g f (isForm-earliest M F W f E) E (isForm-arities M F W f) (isForm-agrees M F W f)
+form-of-form M F G W E f g =
+    words-forms F M G F (isForm-made M F W f) W g f (isForm-earliest M F W f E) E (isForm-arities M F W f) (isForm-agrees M F W f)

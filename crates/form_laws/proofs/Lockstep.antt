@@ -1,4 +1,5 @@
--- Two visits in lockstep: where a relation of states keeps the tests and the rows, the two lists have one length and related states, and the same rows are written.
+-- Two visits in lockstep: where a relation of states keeps the tests and the rows, the two lists have one length and related
+-- states, and the same rows are written.
 use mathlib.Core.Path.{_≡_, refl, ap, ap₂}
 use mathlib.Core.Bool.{Bool, true, false, true≢false, false≢true}
 use mathlib.Core.List.{List, [], _∷_, _++_, map}
@@ -39,7 +40,8 @@ childStates-pairs R (r ∷ rs) (s ∷ ss) h =
     (rest-pairs R (r .rule .rest) (s .rule .rest) (h .0 .rest)) (childStates-pairs R rs ss (h .1))
 
 -- Of two equal tests the same case is taken.
-same-case : {A B : Type 0} (R : A → B → Type 0) (b c : Bool) (x y : A) (x′ y′ : B) → b ≡ c → R x x′ → R y y′ → R (elim b [ true ↦ x | false ↦ y ]) (elim c [ true ↦ x′ | false ↦ y′ ])
+same-case : {A B : Type 0} (R : A → B → Type 0) (b c : Bool) (x y : A) (x′ y′ : B) → b ≡ c → R x x′ → R y y′
+    → R (elim b [ true ↦ x | false ↦ y ]) (elim c [ true ↦ x′ | false ↦ y′ ])
 same-case R true true x y x′ y′ e h k = h
 same-case R true false x y x′ y′ e h k = absurd (true≢false e)
 same-case R false true x y x′ y′ e h k = absurd (false≢true e)
@@ -53,7 +55,8 @@ module _ (s t : Test) (R : ℕ → ℕ → Type 0) (tests : (p q p′ q′ : ℕ
   number-pairs [] (y ∷ ys) h q r e = absurd h
   number-pairs (x ∷ xs) [] h q r e = absurd h
   number-pairs (x ∷ xs) (y ∷ ys) h q r e =
-      same-case (λ (m n : ℕ). m ≡ n) (s x q) (t y r) zero (suc (numberIn s xs q)) zero (suc (numberIn t ys r)) (tests x q y r (h .0) e) refl (ap suc (number-pairs xs ys (h .1) q r e))
+      same-case (λ (m n : ℕ). m ≡ n) (s x q) (t y r) zero (suc (numberIn s xs q)) zero (suc (numberIn t ys r))
+      (tests x q y r (h .0) e) refl (ap suc (number-pairs xs ys (h .1) q r e))
 
   -- Related lists that meet related states stay related.
   meet-pairs : (xs ys qs rs : List ℕ) → Pairs R xs ys → Pairs R qs rs → Pairs R (meet s xs qs) (meet t ys rs)
@@ -62,18 +65,21 @@ module _ (s t : Test) (R : ℕ → ℕ → Type 0) (tests : (p q p′ q′ : ℕ
   meet-pairs xs ys [] (r ∷ rs) h k = absurd k
   meet-pairs xs ys (q ∷ qs) [] h k = absurd k
   meet-pairs xs ys (q ∷ qs) (r ∷ rs) h k =
-      same-case (Pairs R) (ltb (numberIn s xs q) (length xs)) (ltb (numberIn t ys r) (length ys)) (meet s xs qs) (meet s (xs ++ q ∷ []) qs) (meet t ys rs) (meet t (ys ++ r ∷ []) rs)
+      same-case (Pairs R) (ltb (numberIn s xs q) (length xs)) (ltb (numberIn t ys r) (length ys))
+      (meet s xs qs) (meet s (xs ++ q ∷ []) qs) (meet t ys rs) (meet t (ys ++ r ∷ []) rs)
       (ap₂ ltb (number-pairs xs ys h q r (k .0)) (pairs-length R xs ys h))
       (meet-pairs xs ys qs rs h (k .1))
       (meet-pairs (xs ++ q ∷ []) (ys ++ r ∷ []) qs rs (pairs-append R xs (q ∷ []) ys (r ∷ []) h (k .0, tt)) (k .1))
 
   module _ (rows rows′ : List Row) (alike : (q r : ℕ) → R q r → Pairs (RowsLike R) (rowsOf rows q) (rowsOf rows′ r)) where
     -- Related lists stay related when the states at one place are taken.
-    step-pairs : (i : ℕ) (xs ys : List ℕ) → Pairs R xs ys → i < length xs → Pairs R (meet s xs (childStates (rowsOf rows (getD xs i zero)))) (meet t ys (childStates (rowsOf rows′ (getD ys i zero))))
+    step-pairs : (i : ℕ) (xs ys : List ℕ) → Pairs R xs ys → i < length xs
+        → Pairs R (meet s xs (childStates (rowsOf rows (getD xs i zero)))) (meet t ys (childStates (rowsOf rows′ (getD ys i zero))))
     step-pairs i xs ys h l =
         let p : ℕ = getD xs i zero in
         let q : ℕ = getD ys i zero in
-        meet-pairs xs ys (childStates (rowsOf rows p)) (childStates (rowsOf rows′ q)) h (childStates-pairs R (rowsOf rows p) (rowsOf rows′ q) (alike p q (pairs-at R xs ys h i zero zero l)))
+        let kids-pairs = childStates-pairs R (rowsOf rows p) (rowsOf rows′ q) (alike p q (pairs-at R xs ys h i zero zero l)) in
+        meet-pairs xs ys (childStates (rowsOf rows p)) (childStates (rowsOf rows′ q)) h kids-pairs
 
     -- Two visits from related lists end with related lists.
     pub visit-pairs : (n i : ℕ) (xs ys : List ℕ) → Pairs R xs ys → Pairs R (visit s rows n i xs) (visit t rows′ n i ys)
@@ -84,7 +90,8 @@ module _ (s t : Test) (R : ℕ → ℕ → Type 0) (tests : (p q p′ q′ : ℕ
         elim (decLt i (length xs)) [
           | yes l ↦
               rw (visit-next s rows n i xs l, visit-next t rows′ n i ys (omega arith))
-              (visit-pairs n (suc i) (meet s xs (childStates (rowsOf rows (getD xs i zero)))) (meet t ys (childStates (rowsOf rows′ (getD ys i zero)))) (step-pairs i xs ys h l))
+              (visit-pairs n (suc i) (meet s xs (childStates (rowsOf rows (getD xs i zero))))
+              (meet t ys (childStates (rowsOf rows′ (getD ys i zero)))) (step-pairs i xs ys h l))
           | no l ↦ rw (visit-done s rows (suc n) i xs (omega arith), visit-done t rows′ (suc n) i ys (omega arith)) h
         ]
 
@@ -101,7 +108,8 @@ module _ (s t : Test) (R : ℕ → ℕ → Type 0) (tests : (p q p′ q′ : ℕ
       rows-equal i [] [] h = refl
       rows-equal i [] (q ∷ ss) h = absurd h
       rows-equal i (r ∷ rs) [] h = absurd h
-      rows-equal i (r ∷ rs) (q ∷ ss) h = rw (h .0 .symbol, h .0 .first, rest-equal (r .rule .rest) (q .rule .rest) (h .0 .rest), rows-equal i rs ss (h .1))
+      rows-equal i (r ∷ rs) (q ∷ ss) h =
+          rw (h .0 .symbol, h .0 .first, rest-equal (r .rule .rest) (q .rule .rest) (h .0 .rest), rows-equal i rs ss (h .1))
 
       -- Related lists give the same rows.
       pub renumbered-equal : (i : ℕ) (xs ys : List ℕ) → Pairs R xs ys → renumbered number rows i xs ≡ renumbered number′ rows′ i ys
@@ -109,4 +117,5 @@ module _ (s t : Test) (R : ℕ → ℕ → Type 0) (tests : (p q p′ q′ : ℕ
       renumbered-equal i [] [] h = refl
       renumbered-equal i [] (y ∷ ys) h = absurd h
       renumbered-equal i (x ∷ xs) [] h = absurd h
-      renumbered-equal i (x ∷ xs) (y ∷ ys) h = ap₂ (λ a b. a ++ b) (rows-equal i (rowsOf rows x) (rowsOf rows′ y) (alike x y (h .0))) (renumbered-equal (suc i) xs ys (h .1))
+      renumbered-equal i (x ∷ xs) (y ∷ ys) h =
+          ap₂ (λ a b. a ++ b) (rows-equal i (rowsOf rows x) (rowsOf rows′ y) (alike x y (h .0))) (renumbered-equal (suc i) xs ys (h .1))

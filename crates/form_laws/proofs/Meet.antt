@@ -13,12 +13,12 @@ use Rattle.form_laws.proofs.Lists.{All, all-at, mem-all}
 use Rattle.form_laws.proofs.Number.{Known, Apart, known-append, known-last, number-fresh, apart-last}
 
 -- What a list is grown by: what all the offered states have, all new ones have.
-pub record Grown (P : ℕ → Type 0) (seen grown : List ℕ) : Type 0 where
+pub record GrownBy (P : ℕ → Type 0) (seen grown : List ℕ) : Type 0 where
   pub new : List ℕ
   pub is : grown ≡ seen ++ new
   pub all : All P new
 
-module _ (P : ℕ → Type 0) (seen grown : List ℕ) (g : Grown P seen grown) where
+module _ (P : ℕ → Type 0) (seen grown : List ℕ) (g : GrownBy P seen grown) where
   -- The grown list is not shorter.
   pub grown-length : length seen ≤ length grown
   grown-length = rw (g .is) (omega (arith, length-append seen (g .new)))
@@ -52,18 +52,18 @@ module _ (same : Test) where
   known-or seen q f g = elim (decLt (numberIn same seen q) (length seen)) [ yes l ↦ f l | no n ↦ g (omega arith) ]
 
   -- The list grows by some of the states that it meets.
-  pub meet-grown : (P : ℕ → Type 0) (seen qs : List ℕ) → All P qs → Grown P seen (meet same seen qs)
+  pub meet-grown : (P : ℕ → Type 0) (seen qs : List ℕ) → All P qs → GrownBy P seen (meet same seen qs)
   unfolding meet
   meet-grown P seen [] h = record { new = []; is = sym (append-nil seen); all = tt }
   meet-grown P seen (q ∷ qs) h =
       known-or seen q
       (λ l. rw (meet-old seen q qs l) (meet-grown P seen qs (h .1)))
       (λ l.
-      let g : Grown P (seen ++ q ∷ []) (meet same (seen ++ q ∷ []) qs) = meet-grown P (seen ++ q ∷ []) qs (h .1) in
+      let g : GrownBy P (seen ++ q ∷ []) (meet same (seen ++ q ∷ []) qs) = meet-grown P (seen ++ q ∷ []) qs (h .1) in
       record { new = q ∷ g .new; is = meet-new seen q qs l ∙ g .is ∙ append-assoc seen (q ∷ []) (g .new); all = (h .0, g .all) })
 
   -- A state that is known before the list grows is known after.
-  pub grown-known : (P : ℕ → Type 0) (seen grown : List ℕ) → Grown P seen grown → (q : ℕ) → Known same seen q → Known same grown q
+  pub grown-known : (P : ℕ → Type 0) (seen grown : List ℕ) → GrownBy P seen grown → (q : ℕ) → Known same seen q → Known same grown q
   grown-known P seen grown g q h = subst (λ (l : List ℕ). Known same l q) (sym (g .is)) (known-append same seen (g .new) q h)
 
   -- States that are apart stay apart.
@@ -76,7 +76,7 @@ module _ (same : Test) where
       (λ l. rw (meet-new seen q qs l) (meet-apart (seen ++ q ∷ []) qs (apart-last same seen q a (number-fresh same seen q l))))
 
   -- A state that is known in the list is known after it has met others.
-  pub meet-keeps : (seen qs : List ℕ) (q : ℕ) → Known same seen q → Known same (meet same seen qs) q
+  meet-keeps : (seen qs : List ℕ) (q : ℕ) → Known same seen q → Known same (meet same seen qs) q
   meet-keeps seen qs q h = grown-known (λ r. List·Memᴰ r qs) seen (meet same seen qs) (meet-grown (λ r. List·Memᴰ r qs) seen qs (mem-all qs)) q h
 
   -- All states that were met are known, if each is the same as itself.

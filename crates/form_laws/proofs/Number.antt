@@ -74,7 +74,8 @@ module _ (same : Test) where
       by-test (same r q) (λ d. omega (arith, number-here r (rs ++ q ∷ []) q d)) (λ d. omega (arith, number-there r (rs ++ q ∷ []) q d, known-last rs q e))
 
   -- The states of a list whose states are apart have their places as numbers.
-  pub number-at : (seen : List ℕ) → Apart seen → (i : ℕ) → i < length seen → same (getD seen i zero) (getD seen i zero) ≡ true → numberIn same seen (getD seen i zero) ≡ i
+  pub number-at : (seen : List ℕ) → Apart seen → (i : ℕ) → i < length seen
+      → same (getD seen i zero) (getD seen i zero) ≡ true → numberIn same seen (getD seen i zero) ≡ i
   number-at [] a i l e = absurd (not-suc-le-zero l)
   number-at (r ∷ rs) a zero l e = number-here r rs r e
   number-at (r ∷ rs) a (suc i) l e =

@@ -11,22 +11,26 @@ use Rattle.machine.specs.Machine.{Row, Table, WellMade}
 use Rattle.machine.specs.Same.{Same}
 use Rattle.machine.specs.Form.{Test, Decides, rowsOf, childStates, meet, visit, order}
 use Rattle.form_laws.specs.Listed.{Selfsame, kids, listed, numberOf}
-use Rattle.form_laws.proofs.Lists.{All, all-map, all-both, all-at, ordered-at}
+use Rattle.form_laws.proofs.Lists.{All, all-at, ordered-at}
 use Rattle.form_laws.proofs.Number.{Known, number-same, number-at}
-use Rattle.form_laws.proofs.Rows.{kids-inside}
 use Rattle.form_laws.proofs.Visit.{Visited, visited-length, visited-start, visited-step, same-self}
 
 -- All listed states have been taken.
-abbrev pub Listed : Test → Table → List ℕ → Type 0
-Listed same M seen = Visited same M (length seen) seen
+abbrev pub AllTaken : Test → Table → List ℕ → Type 0
+AllTaken same M seen = Visited same M (length seen) seen
 
 -- A state of the table that the order knows.
-abbrev pub Numbered : Test → Table → ℕ → Type 0
-Numbered same M q = (q < M .states) × Known same (order same M) q
+abbrev pub InOrder : Test → Table → ℕ → Type 0
+InOrder same M q = (q < M .states) × Known same (order same M) q
+
+-- The order knows the child states of a row.
+abbrev pub ChildrenInOrder : Test → Table → Row → Type 0
+ChildrenInOrder same M r = All (λ c. InOrder same M (c .state)) (r .rule .rest)
 
 module _ (same : Test) (rows : List Row) where
   -- A step of the visit: the state at place i is taken.
-  pub visit-next : (n i : ℕ) (seen : List ℕ) → i < length seen → visit same rows (suc n) i seen ≡ visit same rows n (suc i) (meet same seen (childStates (rowsOf rows (getD seen i zero))))
+  pub visit-next : (n i : ℕ) (seen : List ℕ) → i < length seen
+      → visit same rows (suc n) i seen ≡ visit same rows n (suc i) (meet same seen (childStates (rowsOf rows (getD seen i zero))))
   unfolding visit
   visit-next n i seen l = rw (lt-ltb i (length seen) l, visit)
 
@@ -38,11 +42,11 @@ module _ (same : Test) (rows : List Row) where
 
 module _ (same : Test) (M : Table) (W : WellMade M) (S : Selfsame same M) where
   -- With as many places taken as there are states, all have been taken.
-  visited-full : (i : ℕ) (seen : List ℕ) → length seen ≤ i → Visited same M i seen → Listed same M seen
+  visited-full : (i : ℕ) (seen : List ℕ) → length seen ≤ i → Visited same M i seen → AllTaken same M seen
   visited-full i seen h v = let e : length seen ≡ i = omega (arith, v .within) in subst (λ (k : ℕ). Visited same M k seen) (sym e) v
 
   -- The visit takes all that it lists, if it may take as many as the table has states.
-  pub visit-listed : (n i : ℕ) (seen : List ℕ) → M .states ≤ i + n → Visited same M i seen → Listed same M (visit same (M .rows) n i seen)
+  visit-listed : (n i : ℕ) (seen : List ℕ) → M .states ≤ i + n → Visited same M i seen → AllTaken same M (visit same (M .rows) n i seen)
   unfolding visit
   visit-listed zero i seen h v = visited-full i seen (omega (arith, visited-length same M W S i seen v)) v
   visit-listed (suc n) i seen h v =
@@ -54,7 +58,8 @@ module _ (same : Test) (M : Table) (W : WellMade M) (S : Selfsame same M) where
       ]
 
   -- More steps than enough change nothing.
-  pub visit-enough : (n m i : ℕ) (seen : List ℕ) → M .states ≤ i + n → M .states ≤ i + m → Visited same M i seen → visit same (M .rows) n i seen ≡ visit same (M .rows) m i seen
+  visit-enough : (n m i : ℕ) (seen : List ℕ) → M .states ≤ i + n → M .states ≤ i + m → Visited same M i seen
+      → visit same (M .rows) n i seen ≡ visit same (M .rows) m i seen
   visit-enough zero m i seen h k v =
       let l : length seen ≤ i = omega (arith, visited-length same M W S i seen v) in
       visit-done same (M .rows) zero i seen l ∙ sym (visit-done same (M .rows) m i seen l)
@@ -71,7 +76,7 @@ module _ (same : Test) (M : Table) (W : WellMade M) (S : Selfsame same M) where
       ]
 
   -- The order of the table's states lists and takes all.
-  pub order-listed : Listed same M (order same M)
+  pub order-listed : AllTaken same M (order same M)
   unfolding order
   order-listed = visit-listed (M .states) zero (M .start ∷ []) (omega arith) (visited-start same M W S)
 
@@ -104,10 +109,3 @@ module _ (same : Test) (M : Table) (W : WellMade M) (D : Decides same M) where
   pub order-same : (q : ℕ) → q < M .states → Known same (order same M) q → Same M M (listed same M (numberOf same M q)) q
   order-same q l k =
       D (listed same M (numberOf same M q)) q (listed-inside same M W (same-self same M D) (numberOf same M q) k) l .0 (number-same same (order same M) q k)
-
-  -- Each child state of a listed state has the words of a listed state, that at its number.
-  pub listed-kids-known : (i : ℕ) → i < length (order same M) → All (λ q. (numberOf same M q < length (order same M)) × Same M M (listed same M (numberOf same M q)) q) (kids M (listed same M i))
-  listed-kids-known i l =
-      let q : ℕ = listed same M i in
-      all-map (λ p. (p < M .states) × Known same (order same M) p) (λ p. (numberOf same M p < length (order same M)) × Same M M (listed same M (numberOf same M p)) p) (λ p h. (h .1, order-same p (h .0) (h .1))) (kids M q)
-      (all-both (λ p. p < M .states) (Known same (order same M)) (kids M q) (kids-inside M W q) (order-listed same M W (same-self same M D) .taken i l))

@@ -15,7 +15,7 @@ use Rattle.form_laws.specs.Listed.{Selfsame, kids, listed, numberOf}
 use Rattle.form_laws.proofs.Lists.{All, all-map, all-both, all-mem}
 use Rattle.form_laws.proofs.Number.{Known, known-at, number-same}
 use Rattle.form_laws.proofs.Rows.{rowsOf-all, rowsOf-state, ChildOf, childStates-of, kids-inside}
-use Rattle.form_laws.proofs.Order.{Numbered, order-listed, listed-inside}
+use Rattle.form_laws.proofs.Order.{InOrder, order-listed, listed-inside}
 use Rattle.form_laws.proofs.Renumber.{find-children}
 
 -- What holds of the row at every index holds of all rows.
@@ -80,7 +80,7 @@ module _ (same : Test) (M : Table) (W : WellMade M) (S : Selfsame same M) where
   listed-reached i l = listed-below (suc i) i (omega arith) l
 
   -- The order knows the initial state.
-  pub start-numbered : Numbered same M (M .start)
+  pub start-numbered : InOrder same M (M .start)
   start-numbered =
       let v = order-listed same M W S in
       (W .start, known-at same (order same M) (M .start) zero (v .some-state) (rw (v .first) (S (M .start) (W .start))))
@@ -88,19 +88,19 @@ module _ (same : Test) (M : Table) (W : WellMade M) (S : Selfsame same M) where
   -- The test tells all states apart.
   module _ (one : (p q : ℕ) → p < M .states → q < M .states → same p q ≡ true → p ≡ q) where
     -- Then a state that the order knows is listed at its number.
-    pub known-listed : (q : ℕ) → Numbered same M q → listed same M (numberOf same M q) ≡ q
+    known-listed : (q : ℕ) → InOrder same M q → listed same M (numberOf same M q) ≡ q
     known-listed q n =
         one (listed same M (numberOf same M q)) q (listed-inside same M W S (numberOf same M q) (n .1)) (n .0) (number-same same (order same M) q (n .1))
 
     -- So it knows its child states.
-    kids-numbered : (q : ℕ) → Numbered same M q → All (Numbered same M) (kids M q)
+    kids-numbered : (q : ℕ) → InOrder same M q → All (InOrder same M) (kids M q)
     kids-numbered q n =
         let t = order-listed same M W S .taken (numberOf same M q) (n .1) in
         all-both (λ s. s < M .states) (Known same (order same M)) (kids M q) (kids-inside M W q) (rw (known-listed q n) at t)
 
     -- It knows every reached state.
-    pub reached-known : (q : ℕ) → Reached M q → Numbered same M q
+    pub reached-known : (q : ℕ) → Reached M q → InOrder same M q
     reached-known q (initial e) = rw (← e) start-numbered
     reached-known q (below {q = p} {r = r} f h e m d) =
         rw (← d)
-        (all-mem (λ c. Numbered same M (c .state)) (r .rest) (find-children (Numbered same M) (M .rows) p f r (kids-numbered p (reached-known p h)) e) m)
+        (all-mem (λ c. InOrder same M (c .state)) (r .rest) (find-children (InOrder same M) (M .rows) p f r (kids-numbered p (reached-known p h)) e) m)

@@ -49,7 +49,11 @@ rowsOf-all P (r ∷ rs) q h =
 pub rowsOf-state : (rows : List Row) (q : ℕ) → All (λ r. r .state ≡ q) (rowsOf rows q)
 unfolding rowsOf
 rowsOf-state [] q = tt
-rowsOf-state (r ∷ rs) q = elim (ℕ-discrete (r .state) q) [ yes e ↦ rw (rowsOf-own r rs q e) (e, rowsOf-state rs q) | no n ↦ rw (rowsOf-past r rs q n) (rowsOf-state rs q) ]
+rowsOf-state (r ∷ rs) q =
+    elim (ℕ-discrete (r .state) q) [
+      | yes e ↦ rw (rowsOf-own r rs q e) (e, rowsOf-state rs q)
+      | no n ↦ rw (rowsOf-past r rs q n) (rowsOf-state rs q)
+    ]
 
 -- A relation of all rows to those behind them is one of the rows of a state.
 pub rowsOf-ordered : (R : Row → Row → Type 0) (rows : List Row) (q : ℕ) → Ordered R rows → Ordered R (rowsOf rows q)
@@ -66,10 +70,12 @@ abbrev pub Children : (ℕ → Type 0) → List Row → Type 0
 Children P rows = All (λ r. All (λ c. P (c .state)) (r .rule .rest)) rows
 
 -- Then it holds of the child states in turn.
-pub childStates-all : (P : ℕ → Type 0) (rows : List Row) → Children P rows → All P (childStates rows)
+childStates-all : (P : ℕ → Type 0) (rows : List Row) → Children P rows → All P (childStates rows)
 unfolding childStates
 childStates-all P [] h = tt
-childStates-all P (r ∷ rs) h = all-append P (map (λ c. c .state) (r .rule .rest)) (childStates rs) (all-image P (λ c. c .state) (r .rule .rest) (h .0)) (childStates-all P rs (h .1))
+childStates-all P (r ∷ rs) h =
+    all-append P (map (λ c. c .state) (r .rule .rest)) (childStates rs)
+    (all-image P (λ c. c .state) (r .rule .rest) (h .0)) (childStates-all P rs (h .1))
 
 -- What holds of all child states in turn holds of those of all rows.
 pub all-childStates : (P : ℕ → Type 0) (rows : List Row) → All P (childStates rows) → Children P rows
@@ -93,9 +99,13 @@ pub record ChildOf (rows : List Row) (p : ℕ) : Type 0 where
 pub childStates-of : (rows : List Row) → All (ChildOf rows) (childStates rows)
 childStates-of rows = childStates-all (ChildOf rows) rows (rows-of rows (λ r m. m))
   where
-    rest-of : (r : Row) → List·Memᴰ r rows → (cs : List Child) → ((c : Child) → List·Memᴰ c cs → List·Memᴰ c (r .rule .rest)) → All (λ c. ChildOf rows (c .state)) cs
+    rest-of : (r : Row) → List·Memᴰ r rows → (cs : List Child) → ((c : Child) → List·Memᴰ c cs → List·Memᴰ c (r .rule .rest))
+        → All (λ c. ChildOf rows (c .state)) cs
     rest-of r m [] f = tt
-    rest-of r m (c ∷ cs) f = (record { row = r; child = c; has-row = m; has-child = f c (List·Memᴰ·head refl); is = refl }, rest-of r m cs (λ d i. f d (List·Memᴰ·tail i)))
+    rest-of r m (c ∷ cs) f = (
+      record { row = r; child = c; has-row = m; has-child = f c (List·Memᴰ·head refl); is = refl },
+      rest-of r m cs (λ d i. f d (List·Memᴰ·tail i)),
+    )
 
     rows-of : (rs : List Row) → ((r : Row) → List·Memᴰ r rs → List·Memᴰ r rows) → Children (ChildOf rows) rs
     rows-of [] f = tt
@@ -104,6 +114,14 @@ childStates-of rows = childStates-all (ChildOf rows) rows (rows-of rows (λ r m.
 -- The child states of a state of a well-made table are states of the table.
 pub kids-inside : (M : Table) → WellMade M → (q : ℕ) → All (λ p. p < M .states) (childStates (rowsOf (M .rows) q))
 kids-inside M W q =
-    childStates-all (λ p. p < M .states) (rowsOf (M .rows) q)
-    (rowsOf-all (λ r. All (λ c. c .state < M .states) (r .rule .rest)) (M .rows) q
-    (all-map (RowFits M) (λ r. All (λ c. c .state < M .states) (r .rule .rest)) (λ r f. each-all (λ c. c .state < M .states) (r .rule .rest) (f .children)) (M .rows) (W .rows)))
+    childStates-all Inside (rowsOf (M .rows) q)
+    (rowsOf-all KidsInside (M .rows) q (all-map (RowFits M) KidsInside fits (M .rows) (W .rows)))
+  where
+    Inside : ℕ → Type 0
+    Inside p = p < M .states
+
+    KidsInside : Row → Type 0
+    KidsInside r = All (λ c. Inside (c .state)) (r .rule .rest)
+
+    fits : (r : Row) → RowFits M r → KidsInside r
+    fits r f = each-all (λ c. c .state < M .states) (r .rule .rest) (f .children)

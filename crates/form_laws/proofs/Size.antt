@@ -18,7 +18,7 @@ use Rattle.form_laws.proofs.Visit.{apart-different, same-self}
 use Rattle.form_laws.proofs.Order.{order-listed, order-length}
 
 -- The rows of the states of a list, in turn.
-unfoldable pub chosen : List Row → List ℕ → List Row
+unfoldable chosen : List Row → List ℕ → List Row
 chosen rows [] = []
 chosen rows (q ∷ qs) = rowsOf rows q ++ chosen rows qs
 
@@ -39,7 +39,9 @@ chosen-none (q ∷ qs) = chosen-none qs
 renumbered-chosen : (number : ℕ → ℕ) (rows : List Row) (i : ℕ) (qs : List ℕ) → Pairs ByNumber (chosen rows qs) (renumbered number rows i qs)
 unfolding chosen renumbered
 renumbered-chosen number rows i [] = tt
-renumbered-chosen number rows i (q ∷ qs) = pairs-append ByNumber (rowsOf rows q) (chosen rows qs) (map (renumber number i) (rowsOf rows q)) (renumbered number rows (suc i) qs) (go (rowsOf rows q)) (renumbered-chosen number rows (suc i) qs)
+renumbered-chosen number rows i (q ∷ qs) =
+    pairs-append ByNumber (rowsOf rows q) (chosen rows qs) (map (renumber number i) (rowsOf rows q)) (renumbered number rows (suc i) qs)
+    (go (rowsOf rows q)) (renumbered-chosen number rows (suc i) qs)
   where
     go : (rs : List Row) → Pairs ByNumber rs (map (renumber number i) rs)
     go [] = tt
@@ -57,8 +59,13 @@ module _ (size : Row → ℕ) where
   chosen-once r rs [] h = omega arith
   chosen-once r rs (q ∷ qs) h =
       elim (ℕ-discrete (r .state) q) [
-        | yes e ↦ rw (rowsOf-own r rs q e, chosen-past r rs qs (all-map (λ p. q ≢ p) (λ p. r .state ≢ p) (λ p n d. n (sym e ∙ d)) qs (h .0))) (omega arith)
-        | no n ↦ rw (rowsOf-past r rs q n) (omega (arith, total-append (rowsOf rs q) (chosen (r ∷ rs) qs), total-append (rowsOf rs q) (chosen rs qs), chosen-once r rs qs (h .1)))
+        | yes e ↦
+            let others = all-map (λ p. q ≢ p) (λ p. r .state ≢ p) (λ p n d. n (sym e ∙ d)) qs (h .0) in
+            rw (rowsOf-own r rs q e, chosen-past r rs qs others) (omega arith)
+        | no n ↦
+            let with-row = total-append (rowsOf rs q) (chosen (r ∷ rs) qs) in
+            let without = total-append (rowsOf rs q) (chosen rs qs) in
+            rw (rowsOf-past r rs q n) (omega (arith, with-row, without, chosen-once r rs qs (h .1)))
       ]
 
   -- The sum over the rows of different states is at most that over all rows.
@@ -67,7 +74,7 @@ module _ (size : Row → ℕ) where
   chosen-total (r ∷ rs) qs h = omega (arith, chosen-once r rs qs h, chosen-total rs qs h)
 
 -- The words after children.
-abbrev pub afters : List Child → List Word
+abbrev afters : List Child → List Word
 afters = map (λ c. c .after)
 
 -- They do not look at numbers.
@@ -96,19 +103,20 @@ total-one [] = refl
 total-one (r ∷ rs) = omega (arith, total-one rs)
 
 -- The form's rows are rows of the table by number, each used at most once.
-pub form-shrunk : (same : Test) (M : Table) → WellMade M → Decides same M → Shrunk M (formOf same M)
+form-shrunk : (same : Test) (M : Table) → WellMade M → Decides same M → Shrunk M (formOf same M)
 unfolding formOf
 form-shrunk same M W D =
     let v = order-listed same M W (same-self same M D) in
     record {
       used = chosen (M .rows) (order same M);
       numbered = renumbered-chosen (numberOf same M) (M .rows) zero (order same M);
-      once = λ size. chosen-total size (M .rows) (order same M) (apart-different same M W (same-self same M D) (order same M) (v .inside) (v .apart));
+      once = λ size.
+          chosen-total size (M .rows) (order same M) (apart-different same M W (same-self same M D) (order same M) (v .inside) (v .apart));
     }
 
 module _ (M F : Table) (W : WellMade M) (f : IsForm M F) where
   -- A form's rows are rows of the table by number, each used at most once.
-  pub isForm-shrunk : Shrunk M F
+  isForm-shrunk : Shrunk M F
   isForm-shrunk = rw (f .form) (form-shrunk (f .same) M W (f .decides))
 
   -- The form has at most as many states.

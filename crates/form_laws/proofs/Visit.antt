@@ -13,7 +13,7 @@ use Rattle.form_laws.specs.Listed.{Selfsame, kids}
 use Rattle.form_laws.proofs.Lists.{All, Ordered, all-map, all-append, mem-all}
 use Rattle.form_laws.proofs.Pigeon.{pigeonhole}
 use Rattle.form_laws.proofs.Number.{Known, Apart}
-use Rattle.form_laws.proofs.Meet.{Grown, grown-length, grown-old, grown-new, meet-grown, grown-known, meet-apart, meet-known}
+use Rattle.form_laws.proofs.Meet.{GrownBy, grown-length, grown-old, grown-new, meet-grown, grown-known, meet-apart, meet-known}
 use Rattle.form_laws.proofs.Rows.{kids-inside}
 
 -- The state at place j is a child state of one at an earlier place.
@@ -64,7 +64,7 @@ module _ (same : Test) (M : Table) (W : WellMade M) (S : Selfsame same M) where
       }
 
   -- A parent stays one when the list grows.
-  parent-grown : (P : ℕ → Type 0) (seen grown : List ℕ) → Grown P seen grown → (j : ℕ) → j < length seen → Parent M seen j → Parent M grown j
+  parent-grown : (P : ℕ → Type 0) (seen grown : List ℕ) → GrownBy P seen grown → (j : ℕ) → j < length seen → Parent M seen j → Parent M grown j
   parent-grown P seen grown g j l p =
       let e : p .place < length seen = omega arith in
       record { place = p .place; earlier = p .earlier; kid = rw (grown-old P seen grown g j l, grown-old P seen grown g (p .place) e) (p .kid) }
@@ -91,7 +91,7 @@ module _ (same : Test) (M : Table) (W : WellMade M) (S : Selfsame same M) where
       P : ℕ → Type 0
       P q = List·Memᴰ q children
 
-      g : Grown P seen grown
+      g : GrownBy P seen grown
       g = meet-grown same P seen children (mem-all children)
 
       longer : length seen ≤ length grown
@@ -99,7 +99,7 @@ module _ (same : Test) (M : Table) (W : WellMade M) (S : Selfsame same M) where
 
       inside : All (λ q. q < M .states) grown
       inside =
-          let k : Grown (λ q. q < M .states) seen grown = meet-grown same (λ q. q < M .states) seen children (kids-inside M W (getD seen i zero)) in
+          let k : GrownBy (λ q. q < M .states) seen grown = meet-grown same (λ q. q < M .states) seen children (kids-inside M W (getD seen i zero)) in
           rw (k .is) (all-append (λ q. q < M .states) seen (k .new) (v .inside) (k .all))
 
       taken : (j : ℕ) → j < suc i → All (Known same grown) (kids M (getD grown j zero))

@@ -32,7 +32,7 @@ index-row (s ∷ rs) (suc i) l = index-row rs i (omega arith)
 
 -- ---- finding
 -- The row at index i is the one for the state, the symbol and the rule.
-pub record RowAt (rows : List Row) (q f : ℕ) (r : Rule) : Type 0 where
+pub record FoundRow (rows : List Row) (q f : ℕ) (r : Rule) : Type 0 where
   pub index : ℕ
   pub row : Row
   pub there : getElem? rows index ≡ some row
@@ -41,21 +41,25 @@ pub record RowAt (rows : List Row) (q f : ℕ) (r : Rule) : Type 0 where
   pub rule : row .rule ≡ r
 
 -- A rule that is found stands at some index, in a row for that state and symbol.
-pub find-index : (rows : List Row) (q f : ℕ) (r : Rule) → find rows q f ≡ some r → RowAt rows q f r
+pub find-index : (rows : List Row) (q f : ℕ) (r : Rule) → find rows q f ≡ some r → FoundRow rows q f r
 unfolding find
 find-index [] q f r e = absurd (Option·none-ne-some r e)
 find-index (s ∷ rs) q f r e = go (eqb (s .state) q) (eqb (s .symbol) f) refl refl (λ i. later (find-index rs q f r i)) e
   where
-    later : RowAt rs q f r → RowAt (s ∷ rs) q f r
+    later : FoundRow rs q f r → FoundRow (s ∷ rs) q f r
     later h = record { index = suc (h .index); row = h .row; there = h .there; state = h .state; symbol = h .symbol; rule = h .rule }
 
-    go : (b c : Bool) → eqb (s .state) q ≡ b → eqb (s .symbol) f ≡ c → (find rs q f ≡ some r → RowAt (s ∷ rs) q f r) → elim (b && c) as (λ x. Option Rule) [ true ↦ some (s .rule) | false ↦ find rs q f ] ≡ some r → RowAt (s ∷ rs) q f r
-    go true true i j k e′ = record { index = zero; row = s; there = refl; state = eqb-true _ _ i; symbol = eqb-true _ _ j; rule = Option·some-injective _ _ e′ }
+    go : (b c : Bool) → eqb (s .state) q ≡ b → eqb (s .symbol) f ≡ c → (find rs q f ≡ some r → FoundRow (s ∷ rs) q f r)
+        → elim (b && c) as (λ x. Option Rule) [ true ↦ some (s .rule) | false ↦ find rs q f ] ≡ some r
+        → FoundRow (s ∷ rs) q f r
+    go true true i j k e′ =
+        record { index = zero; row = s; there = refl; state = eqb-true _ _ i; symbol = eqb-true _ _ j; rule = Option·some-injective _ _ e′ }
     go true false i j k e′ = k e′
     go false c i j k e′ = k e′
 
 -- What holds of every row holds of the row of every rule that is found.
-pub find-every : (P : Row → Type 0) (rows : List Row) → Every P rows → (q f : ℕ) (r : Rule) → find rows q f ≡ some r → (row : Row) × P row × (row .state ≡ q) × (row .symbol ≡ f) × (row .rule ≡ r)
+find-every : (P : Row → Type 0) (rows : List Row) → Every P rows → (q f : ℕ) (r : Rule) → find rows q f ≡ some r
+    → (row : Row) × P row × (row .state ≡ q) × (row .symbol ≡ f) × (row .rule ≡ r)
 find-every P rows h q f r e =
     let a = find-index rows q f r e in
     (a .row, every-at P rows h (a .index) (a .row) (a .there), a .state, a .symbol, a .rule)
@@ -65,7 +69,8 @@ row-parts : (row : Row) (q f : ℕ) (r : Rule) → row .state ≡ q → row .sym
 row-parts row q f r a b c = λ i. record { state = a i; symbol = b i; rule = c i }
 
 -- What holds of every row holds of every rule that is found, with its state and symbol.
-pub find-holds : (P : Row → Type 0) (rows : List Row) → Every P rows → (q f : ℕ) (r : Rule) → find rows q f ≡ some r → P (record { state = q; symbol = f; rule = r })
+pub find-holds : (P : Row → Type 0) (rows : List Row) → Every P rows → (q f : ℕ) (r : Rule) → find rows q f ≡ some r
+    → P (record { state = q; symbol = f; rule = r })
 find-holds P rows h q f r e =
     let a = find-every P rows h q f r e in
     subst P (row-parts (a .0) q f r (a .2) (a .3) (a .4)) (a .1)
@@ -97,7 +102,9 @@ rising-first r [] h = (tt, tt)
 rising-first r (s ∷ rs) h = (before-all r s rs (h .0) (h .1), h .1)
 
 -- Two rows of a rising list with one state and symbol are one, at one index.
-pub rising-one : (rows : List Row) → Rising rows → (i j : ℕ) (r s : Row) → getElem? rows i ≡ some r → getElem? rows j ≡ some s → r .state ≡ s .state → r .symbol ≡ s .symbol → (i ≡ j) × (r ≡ s)
+pub rising-one : (rows : List Row) → Rising rows → (i j : ℕ) (r s : Row)
+    → getElem? rows i ≡ some r → getElem? rows j ≡ some s → r .state ≡ s .state → r .symbol ≡ s .symbol
+    → (i ≡ j) × (r ≡ s)
 rising-one [] h i j r s a b p p′ = absurd (Option·none-ne-some r a)
 rising-one (t ∷ rs) h zero zero r s a b p p′ = (refl, Option·some-injective _ _ (sym a ∙ b))
 rising-one (t ∷ rs) h zero (suc j) r s a b p p′ =
@@ -113,12 +120,14 @@ rising-one (t ∷ rs) h (suc i) (suc j) r s a b p p′ =
     (ap suc (k .0), k .1)
 
 -- Where a row for a state and a symbol stands, some rule is found for them.
-pub find-some : (rows : List Row) (q f i : ℕ) (row : Row) → getElem? rows i ≡ some row → row .state ≡ q → row .symbol ≡ f → (r : Rule) × (find rows q f ≡ some r)
+find-some : (rows : List Row) (q f i : ℕ) (row : Row) → getElem? rows i ≡ some row → row .state ≡ q → row .symbol ≡ f
+    → (r : Rule) × (find rows q f ≡ some r)
 unfolding find
 find-some [] q f i row e p p′ = absurd (Option·none-ne-some row e)
 find-some (s ∷ rs) q f zero row e p p′ = go (eqb (s .state) q) (eqb (s .symbol) f) refl refl
   where
-    go : (b c : Bool) → eqb (s .state) q ≡ b → eqb (s .symbol) f ≡ c → (r : Rule) × (elim (b && c) as (λ x. Option Rule) [ true ↦ some (s .rule) | false ↦ find rs q f ] ≡ some r)
+    go : (b c : Bool) → eqb (s .state) q ≡ b → eqb (s .symbol) f ≡ c
+        → (r : Rule) × (elim (b && c) as (λ x. Option Rule) [ true ↦ some (s .rule) | false ↦ find rs q f ] ≡ some r)
     go true true k l = (s .rule, refl)
     go true false k l = absurd (eqb-false _ _ l (ap (λ x. x .symbol) (Option·some-injective s row e) ∙ p′))
     go false c k l = absurd (eqb-false _ _ k (ap (λ x. x .state) (Option·some-injective s row e) ∙ p))

@@ -35,7 +35,7 @@ fails-one c p r a b = go (decLt p r) (decLt r p)
     go (no n) (no m) = omega arith
 
 -- Two verdicts by one list of conditions are equal.
-pub judged-by-unique : (cs : List Condition) (v v′ : Verdict) → JudgedBy cs v → JudgedBy cs v′ → v ≡ v′
+judged-by-unique : (cs : List Condition) (v v′ : Verdict) → JudgedBy cs v → JudgedBy cs v′ → v ≡ v′
 judged-by-unique [] v v′ a b = a ∙ sym b
 judged-by-unique (c ∷ cs) v v′ (inl a) (inl b) = a .2 ∙ ap (late (c .number)) (fails-one c (a .0) (b .0) (a .1) (b .1)) ∙ sym (b .2)
 judged-by-unique (c ∷ cs) v v′ (inl a) (inr b) = absurd (a .1 .fails (b .0 (a .0) (a .1 .place)))

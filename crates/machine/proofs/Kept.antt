@@ -6,11 +6,11 @@ use Prim.Native.Nat.{ℕ, zero, suc}
 use Rattle.words.specs.Word.{Word}
 use Rattle.machine.specs.Machine.{Tree, Forest, node, ∅, _▸_, Child, Rule, Table, find, apply, word, words}
 use Rattle.machine.specs.Same.{Same}
-use Rattle.machine.specs.Twins.{Rests, Rules, Kept, Twin}
+use Rattle.machine.specs.Twins.{Rests, Rules, RulesKeep, Twin}
 
 -- ---- relations on states, carried over to rules
 -- Rests that match under a relation match under a wider one.
-pub rests-map : (R S : ℕ → ℕ → Type 0) → ((q r : ℕ) → R q r → S q r) → (cs ds : List Child) → Rests R cs ds → Rests S cs ds
+rests-map : (R S : ℕ → ℕ → Type 0) → ((q r : ℕ) → R q r → S q r) → (cs ds : List Child) → Rests R cs ds → Rests S cs ds
 rests-map R S f [] [] h = tt
 rests-map R S f [] (d ∷ ds) h = h
 rests-map R S f (c ∷ cs) [] h = h
@@ -43,9 +43,11 @@ module _ (R : ℕ → ℕ → ℕ → Type 0) where
   rules-all (some a) (some b) h = (h 0 .0, rests-all (a .rest) (b .rest) (λ k. h k .1))
 
 module _ (M N : Table) where
-  module _ (R : ℕ → ℕ → Type 0) (kept : Kept M N R) where
+  module _ (R : ℕ → ℕ → Type 0) (kept : RulesKeep M N R) where
     -- Matching rules write the same where their rests do.
-    applied : (a b : Option Rule) (k l : List Child → Option Word) → Rules R a b → ((cs ds : List Child) → Rests R cs ds → k cs ≡ l ds) → apply a k ≡ apply b l
+    applied : (a b : Option Rule) (k l : List Child → Option Word) → Rules R a b
+        → ((cs ds : List Child) → Rests R cs ds → k cs ≡ l ds)
+        → apply a k ≡ apply b l
     applied none none k l h e = refl
     applied none (some b) k l h e = absurd h
     applied (some a) none k l h e = absurd h
@@ -56,7 +58,9 @@ module _ (M N : Table) where
 
       -- On each tree related states have one word.
       kept-word : (t : Tree) (q r : ℕ) → R q r → word M q t ≡ word N r t
-      kept-word (node f ts) q r h = applied (find (M .rows) q f) (find (N .rows) r f) (λ cs. words M ts cs) (λ ds. words N ts ds) (kept q r h f) (λ cs ds s. kept-words ts cs ds s)
+      kept-word (node f ts) q r h =
+          applied (find (M .rows) q f) (find (N .rows) r f) (λ cs. words M ts cs) (λ ds. words N ts ds)
+          (kept q r h f) (λ cs ds s. kept-words ts cs ds s)
 
       -- On each list of trees matching rests have one word.
       kept-words : (ts : Forest) (cs ds : List Child) → Rests R cs ds → words M ts cs ≡ words N ts ds
@@ -80,4 +84,5 @@ module _ (M N : Table) where
 
   -- States that are twins by every number of rounds have the same words.
   pub twin-same : (q r : ℕ) → ((k : ℕ) → Twin M N k q r) → Same M N q r
-  twin-same q r h = kept-same (All (Twin M N)) (λ p s g f. rules-all (Twin M N) (find (M .rows) p f) (find (N .rows) s f) (λ k. g (suc k) f)) q r h
+  twin-same q r h =
+      kept-same (All (Twin M N)) (λ p s g f. rules-all (Twin M N) (find (M .rows) p f) (find (N .rows) s f) (λ k. g (suc k) f)) q r h

@@ -13,7 +13,7 @@ use Rattle.machine.proofs.Find.{find-fits}
 use Rattle.machine.proofs.Word.{word-parts}
 
 -- The rules of a well-made table fit its own list of arities.
-pub well-made-fits : (M : Table) → WellMade M → Fitting (M .arities) M
+well-made-fits : (M : Table) → WellMade M → Fitting (M .arities) M
 well-made-fits M W q f r e =
     let a = find-fits M W q f r e in
     (a .symbol, a .arity)
@@ -42,7 +42,9 @@ module _ (arities : List ℕ) (M : Table) (fit : Fitting arities M) where
         (ap suc (h .0), (word-ranked t (c .state) (a .0) (a .2), h .1))
 
 -- States that agree on ranked trees agree on all trees.
-pub ranked-same : (arities : List ℕ) (M N : Table) → Fitting arities M → Fitting arities N → (q r : ℕ) → ((t : Tree) → Ranked arities t → word M q t ≡ word N r t) → Same M N q r
+pub ranked-same : (arities : List ℕ) (M N : Table) → Fitting arities M → Fitting arities N → (q r : ℕ)
+    → ((t : Tree) → Ranked arities t → word M q t ≡ word N r t)
+    → Same M N q r
 ranked-same arities M N fit fit′ q r e t = go (word M q t) (word N r t) refl refl
   where
     go : (a b : Option Word) → word M q t ≡ a → word N r t ≡ b → word M q t ≡ word N r t
@@ -51,7 +53,9 @@ ranked-same arities M N fit fit′ q r e t = go (word M q t) (word N r t) refl r
     go (some u) b i j = e t (word-ranked arities M fit t q u i)
 
 -- Tables of one symbol list that agree on its ranked trees agree on all trees.
-pub ranked-agree : (M N : Table) → WellMade M → WellMade N → M .arities ≡ N .arities → ((t : Tree) → Ranked (M .arities) t → output M t ≡ output N t) → Agree M N
+pub ranked-agree : (M N : Table) → WellMade M → WellMade N → M .arities ≡ N .arities
+    → ((t : Tree) → Ranked (M .arities) t → output M t ≡ output N t)
+    → Agree M N
 ranked-agree M N W W′ s e t = go (word M (M .start) t) (word N (N .start) t) refl refl
   where
     go : (a b : Option Word) → word M (M .start) t ≡ a → word N (N .start) t ≡ b → output M t ≡ output N t

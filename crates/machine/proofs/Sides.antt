@@ -3,22 +3,20 @@
 use mathlib.Core.Path.{_≡_, refl, sym, ap, _∙_, subst}
 use mathlib.Core.Bool.{Bool, true, false}
 use mathlib.Core.List.{[], _∷_, _++_, append-nil, cons≢nil}
-use mathlib.Core.Logic.{inl, inr}
 use mathlib.Core.Option.{Option, none, some, Option·some-injective}
 use Prim.Native.Nat.{ℕ}
 use native.Mathlib.Omega.{arith}
 use lib.Dec.{eqb}
-use Rattle.words.specs.Word.{Word, _⊕_, Holds, NoPrefix, NoSuffix}
+use Rattle.words.specs.Word.{Word, _⊕_, Holds, NoPrefix}
 use Rattle.words.proofs.Cut.{none-right}
-use Rattle.words.proofs.Ends.{empty-no-prefix, empty-no-suffix, head-prefix}
+use Rattle.words.proofs.Ends.{empty-no-prefix, head-prefix}
 use Rattle.machine.specs.Machine.{Tree, Forest, node, ∅, _▸_, Rule, Table, find, apply, word, words}
-use Rattle.machine.specs.Earliest.{L, Tails, HasWord, Reached, initial, LeftRule}
+use Rattle.machine.specs.Earliest.{L, Tails, Reached, initial}
 use Rattle.machine.specs.Verdict.{late, earliest, Judged}
 use Rattle.machine.specs.Same.{Same}
 use Rattle.machine.specs.Twins.{Match}
-use Rattle.machine.proofs.Find.{every-at}
 use Rattle.machine.proofs.Word.{words-parts, words-nil}
-use Rattle.machine.proofs.Small.{row, to, firsts}
+use Rattle.machine.proofs.Small.{row, to, firsts, BlankStates, blank-states-earliest, blank-states-late}
 
 -- The word abc.
 abbrev abc : Word
@@ -26,7 +24,15 @@ abc = 97 ∷ 98 ∷ 99 ∷ []
 
 -- A table of one state, with a rule for f and the empty word for e.
 abbrev table : Rule → Table
-table r = record { arities = 1 ∷ 0 ∷ []; states = 1; before = []; start = 0; after = []; rows = record { state = 0; symbol = 0; rule = r } ∷ row 0 1 [] [] ∷ [] }
+table r =
+    record {
+      arities = 1 ∷ 0 ∷ [];
+      states = 1;
+      before = [];
+      start = 0;
+      after = [];
+      rows = record { state = 0; symbol = 0; rule = r } ∷ row 0 1 [] [] ∷ [];
+    }
 
 -- The rule abc q, and the rule q abc.
 abbrev abc-q : Rule
@@ -48,13 +54,13 @@ abbrev Turns : Option Word → Type 0
 Turns a = some abc ⊕ a ≡ a ⊕ some abc
 
 -- The two tables have one word on a tree, and abc can go to its other end.
-abbrev Alike : Tree → Type 0
-Alike t = (word front 0 t ≡ word behind 0 t) × Turns (word front 0 t)
+abbrev SameAndTurns : Tree → Type 0
+SameAndTurns t = (word front 0 t ≡ word behind 0 t) × Turns (word front 0 t)
 
 -- The same on each of some trees.
-abbrev Alikes : Forest → Type 0
-Alikes ∅ = Unit {0}
-Alikes (t ▸ ts) = Alike t × Alikes ts
+abbrev AllSameAndTurn : Forest → Type 0
+AllSameAndTurn ∅ = Unit {0}
+AllSameAndTurn (t ▸ ts) = SameAndTurns t × AllSameAndTurn ts
 
 -- Where abc can go to the other end, abc q and q abc write the same.
 turns-same : (a : Option Word) → Turns a → some abc ⊕ (a ⊕ some [] ⊕ some []) ≡ some [] ⊕ (a ⊕ some abc ⊕ some [])
@@ -64,17 +70,34 @@ turns-same (some u) h = ap (λ x. some abc ⊕ some x) (append-nil u) ∙ h
 -- Then abc can go to the other end of what abc q writes.
 turns-more : (a : Option Word) → Turns a → Turns (some abc ⊕ (a ⊕ some [] ⊕ some []))
 turns-more none h = refl
-turns-more (some u) h = ap (λ x. some abc ⊕ (some abc ⊕ some x)) (append-nil u) ∙ ap (λ x. some abc ⊕ x) h ∙ ap (λ x. some abc ⊕ (some x ⊕ some abc)) (sym (append-nil u))
+turns-more (some u) h =
+    ap (λ x. some abc ⊕ (some abc ⊕ some x)) (append-nil u) ∙
+    ap (λ x. some abc ⊕ x) h ∙
+    ap (λ x. some abc ⊕ (some x ⊕ some abc)) (sym (append-nil u))
 
 -- The rule of such a table, where b tells that the symbol is f and c that it is e.
 abbrev pick : Bool → Bool → Rule → Option Rule
-pick b c r = elim b as (λ x. Option Rule) [ true ↦ some r | false ↦ elim c as (λ x. Option Rule) [ true ↦ some (row 0 1 [] [] .rule) | false ↦ none ] ]
+pick b c r =
+    elim b as (λ x. Option Rule) [
+      | true ↦ some r
+      | false ↦ elim c as (λ x. Option Rule) [ true ↦ some (row 0 1 [] [] .rule) | false ↦ none ]
+    ]
+
+-- What abc q and q abc write on such a symbol with these trees below it.
+abbrev by-abc-q : Bool → Bool → Forest → Option Word
+by-abc-q b c ts = apply (pick b c abc-q) (λ cs. words front ts cs)
+
+abbrev by-q-abc : Bool → Bool → Forest → Option Word
+by-q-abc b c ts = apply (pick b c q-abc) (λ cs. words behind ts cs)
 
 -- The two are alike on a tree if they are on those below it.
-node-alike : (b c : Bool) (ts : Forest) → Alikes ts → (apply (pick b c abc-q) (λ cs. words front ts cs) ≡ apply (pick b c q-abc) (λ cs. words behind ts cs)) × Turns (apply (pick b c abc-q) (λ cs. words front ts cs))
+node-alike : (b c : Bool) (ts : Forest) → AllSameAndTurn ts → (by-abc-q b c ts ≡ by-q-abc b c ts) × Turns (by-abc-q b c ts)
 unfolding words
 node-alike true c ∅ h = (refl, refl)
-node-alike true c (t ▸ ∅) h = (turns-same (word front 0 t) (h .0 .1) ∙ ap (λ x. some [] ⊕ (x ⊕ some abc ⊕ some [])) (h .0 .0), turns-more (word front 0 t) (h .0 .1))
+node-alike true c (t ▸ ∅) h = (
+  turns-same (word front 0 t) (h .0 .1) ∙ ap (λ x. some [] ⊕ (x ⊕ some abc ⊕ some [])) (h .0 .0),
+  turns-more (word front 0 t) (h .0 .1),
+)
 node-alike true c (t ▸ u ▸ ts) h = (
   ap (λ x. some abc ⊕ x) (none-right (word front 0 t)) ∙ sym (ap (λ x. some [] ⊕ x) (none-right (word behind 0 t))),
   subst (λ x. Turns (some abc ⊕ x)) (sym (none-right (word front 0 t))) refl,
@@ -84,16 +107,16 @@ node-alike false true (t ▸ ts) h = (refl, refl)
 node-alike false false ts h = (refl, refl)
 
 -- The same, for a symbol.
-step : (f : ℕ) (ts : Forest) → Alikes ts → Alike (node f ts)
+step : (f : ℕ) (ts : Forest) → AllSameAndTurn ts → SameAndTurns (node f ts)
 unfolding word find
 step f ts h = node-alike (eqb 0 f) (eqb 1 f) ts h
 
 -- The two are alike on every tree.
 mutual
-  alike : (t : Tree) → Alike t
+  alike : (t : Tree) → SameAndTurns t
   alike (node f ts) = step f ts (alikes ts)
 
-  alikes : (ts : Forest) → Alikes ts
+  alikes : (ts : Forest) → AllSameAndTurn ts
   alikes ∅ = tt
   alikes (t ▸ ts) = (alike t, alikes ts)
 
@@ -106,29 +129,21 @@ pub sides-apart : Match front behind (Same front behind) 0 0 → ⊥
 unfolding find
 sides-apart h = cons≢nil (h 0 .0)
 
+-- In either table the state is reached and has the empty word, on e.
+table-blank-states : (r : Rule) → BlankStates (table r)
+unfolding word find
+table-blank-states r =
+    record {
+      reached = firsts (Reached (table r)) 1 (initial refl, tt);
+      blank = firsts (λ q. Holds (L (table r) q) []) 1 ((node 1 ∅, refl), tt);
+    }
+
 -- The table with abc q is earliest.
 pub front-judged : Judged front earliest
 unfolding word find
 front-judged =
-    inr (
-      firsts (Reached front) 1 (initial refl, tt),
-      inr (
-        firsts (HasWord front) 1 (([], (node 1 ∅, refl)), tt),
-        inr (
-          firsts (λ q. NoPrefix (L front q)) 1 (empty-no-prefix (L front 0) (node 1 ∅, refl), tt),
-          inr (
-            firsts (λ q. NoSuffix (L front q)) 1 (empty-no-suffix (L front 0) (node 1 ∅, refl), tt),
-            inr (
-              λ p l. empty-no-prefix (λ t. L front 0 t ⊕ some []) (node 1 ∅, refl),
-              inr (
-                λ i l. every-at (λ r. LeftRule front (r .rule)) (front .rows) ((empty-no-prefix (Tails front (to 0 [] ∷ [])) (node 1 ∅ ▸ ∅, refl), tt), (tt, tt)) i,
-                refl,
-              ),
-            ),
-          ),
-        ),
-      ),
-    )
+    blank-states-earliest front (table-blank-states abc-q) (omega arith) refl
+    ((empty-no-prefix (Tails front (to 0 [] ∷ [])) (node 1 ∅ ▸ ∅, refl), tt), (tt, tt))
 
 -- In q abc every word begins with a.
 behind-late : NoPrefix (Tails behind (to 0 abc ∷ [])) → ⊥
@@ -143,21 +158,4 @@ behind-late = head-prefix (Tails behind (to 0 abc ∷ [])) 97 each
 
 -- The table with q abc is judged 18, for its first rule.
 pub behind-judged : Judged behind (late 18 0)
-unfolding word find
-behind-judged =
-    inr (
-      firsts (Reached behind) 1 (initial refl, tt),
-      inr (
-        firsts (HasWord behind) 1 (([], (node 1 ∅, refl)), tt),
-        inr (
-          firsts (λ q. NoPrefix (L behind q)) 1 (empty-no-prefix (L behind 0) (node 1 ∅, refl), tt),
-          inr (
-            firsts (λ q. NoSuffix (L behind q)) 1 (empty-no-suffix (L behind 0) (node 1 ∅, refl), tt),
-            inr (
-              λ p l. empty-no-prefix (λ t. L behind 0 t ⊕ some []) (node 1 ∅, refl),
-              inl (0, record { place = omega arith; fails = λ h. behind-late (h (row 0 0 [] (to 0 abc ∷ [])) refl .0); least = λ r l. absurd (omega arith) }, refl),
-            ),
-          ),
-        ),
-      ),
-    )
+behind-judged = blank-states-late behind (table-blank-states q-abc) (omega arith) refl (row 0 0 [] (to 0 abc ∷ [])) refl (λ h. behind-late (h .0))

@@ -2,18 +2,15 @@
 -- Symbols: g, e and h are 0, 1 and 2.
 use mathlib.Core.Path.{_≡_, refl, sym, _∙_}
 use mathlib.Core.List.{[], _∷_, List·Memᴰ·head, List·Memᴰ·tail}
-use mathlib.Core.Logic.{inr}
 use mathlib.Core.Option.{none, some, Option·none-ne-some}
-use Prim.Native.Nat.{ℕ, _<_}
 use native.Mathlib.Omega.{arith}
-use Rattle.words.specs.Word.{Word, _⊕_, Holds}
-use Rattle.words.proofs.Ends.{empty-no-prefix, empty-no-suffix}
+use Rattle.words.specs.Word.{Word, Holds}
+use Rattle.words.proofs.Ends.{empty-no-prefix}
 use Rattle.machine.specs.Machine.{Tree, node, ∅, _▸_, Table, find, word}
-use Rattle.machine.specs.Earliest.{L, Tails, Reached, initial, below, LeftRule}
+use Rattle.machine.specs.Earliest.{L, Tails, Reached, initial, below}
 use Rattle.machine.specs.Verdict.{earliest, Judged}
 use Rattle.machine.specs.Same.{Same}
-use Rattle.machine.proofs.Find.{every-at}
-use Rattle.machine.proofs.Small.{row, to, firsts, one-word}
+use Rattle.machine.proofs.Small.{row, to, firsts, one-word, BlankStates, blank-states-earliest}
 
 -- g(x,y) is the word of x at state 1 and that of y at state 2. All words are empty: state 1 takes e, and state 2 takes e and h.
 abbrev pub silent : Table
@@ -28,7 +25,8 @@ silent =
     }
 
 -- On g(e,h) the table has the empty word, and on g(h,e) none.
-pub silent-turns-down : (word silent 0 (node 0 (node 1 ∅ ▸ node 2 ∅ ▸ ∅)) ≡ some []) × (word silent 0 (node 0 (node 2 ∅ ▸ node 1 ∅ ▸ ∅)) ≡ none)
+pub silent-turns-down
+    : (word silent 0 (node 0 (node 1 ∅ ▸ node 2 ∅ ▸ ∅)) ≡ some []) × (word silent 0 (node 0 (node 2 ∅ ▸ node 1 ∅ ▸ ∅)) ≡ none)
 unfolding word find
 silent-turns-down = (refl, refl)
 
@@ -43,32 +41,21 @@ pub silent-apart : Same silent silent 1 2 → ⊥
 unfolding word find
 silent-apart e = Option·none-ne-some [] (e (node 2 ∅))
 
--- Each state has the empty word.
-silent-empty : (q : ℕ) → q < 3 → Holds (L silent q) []
+-- Each state is reached and has the empty word.
+silent-blank-states : BlankStates silent
 unfolding word find
-silent-empty = firsts (λ q. Holds (L silent q) []) 3 ((node 0 (node 1 ∅ ▸ node 1 ∅ ▸ ∅), refl), ((node 1 ∅, refl), ((node 1 ∅, refl), tt)))
+silent-blank-states =
+    let left = below 0 (initial refl) refl (List·Memᴰ·head refl) refl in
+    let right = below 0 (initial refl) refl (List·Memᴰ·tail (List·Memᴰ·head refl)) refl in
+    record {
+      reached = firsts (Reached silent) 3 (initial refl, (left, (right, tt)));
+      blank = firsts (λ q. Holds (L silent q) []) 3 ((node 0 (node 1 ∅ ▸ node 1 ∅ ▸ ∅), refl), ((node 1 ∅, refl), ((node 1 ∅, refl), tt)));
+    }
 
 -- And the table is earliest.
 pub silent-judged : Judged silent earliest
 unfolding word find
 silent-judged =
-    inr (
-      firsts (Reached silent) 3 (initial refl, (below 0 (initial refl) refl (List·Memᴰ·head refl) refl, (below 0 (initial refl) refl (List·Memᴰ·tail (List·Memᴰ·head refl)) refl, tt))),
-      inr (
-        λ q l. ([], silent-empty q l),
-        inr (
-          λ q l. empty-no-prefix (L silent q) (silent-empty q l),
-          inr (
-            λ q l. empty-no-suffix (L silent q) (silent-empty q l),
-            inr (
-              λ p l. empty-no-prefix (λ t. L silent 0 t ⊕ some []) (node 0 (node 1 ∅ ▸ node 1 ∅ ▸ ∅), refl),
-              inr (
-                λ i l. every-at (λ r. LeftRule silent (r .rule)) (silent .rows)
-                    ((empty-no-prefix (Tails silent (to 1 [] ∷ to 2 [] ∷ [])) (node 1 ∅ ▸ node 1 ∅ ▸ ∅, refl), (empty-no-prefix (Tails silent (to 2 [] ∷ [])) (node 1 ∅ ▸ ∅, refl), tt)), (tt, (tt, (tt, tt)))) i,
-                refl,
-              ),
-            ),
-          ),
-        ),
-      ),
-    )
+    let both = empty-no-prefix (Tails silent (to 1 [] ∷ to 2 [] ∷ [])) (node 1 ∅ ▸ node 1 ∅ ▸ ∅, refl) in
+    let second = empty-no-prefix (Tails silent (to 2 [] ∷ [])) (node 1 ∅ ▸ ∅, refl) in
+    blank-states-earliest silent silent-blank-states (omega arith) refl ((both, (second, tt)), (tt, (tt, (tt, tt))))

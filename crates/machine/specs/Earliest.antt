@@ -1,6 +1,7 @@
--- Trimmed and earliest tables (document 001, definition 2). L(q) is infinite in general; these definitions speak of all its words. Definitions only.
+-- Trimmed and earliest tables (document 001, definition 2). L(q) is infinite in general; these definitions speak of all its words.
+-- Definitions only.
 use mathlib.Core.Path.{_≡_}
-use mathlib.Core.List.{List, [], _∷_, List·Memᴰ}
+use mathlib.Core.List.{List, _∷_, List·Memᴰ}
 use mathlib.Core.Option.{Option, some}
 use Prim.Native.Nat.{ℕ, _<_}
 use lib.ListN.{getElem?}

@@ -6,7 +6,7 @@ use mathlib.Core.Logic.{_↔_}
 use Prim.Native.Nat.{ℕ, zero, suc, _<_}
 use lib.Dec.{eqb, ltb}
 use lib.ListN.{length, getD}
-use Rattle.machine.specs.Machine.{Child, Rule, Row, Table}
+use Rattle.machine.specs.Machine.{Row, Table}
 use Rattle.machine.specs.Same.{Same}
 
 -- A test of two states.

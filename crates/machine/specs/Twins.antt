@@ -24,8 +24,8 @@ abbrev pub Match : Table → Table → (ℕ → ℕ → Type 0) → ℕ → ℕ 
 Match M N R q r = (f : ℕ) → Rules R (find (M .rows) q f) (find (N .rows) r f)
 
 -- A relation that rules keep: related states have matching rules with related child states.
-abbrev pub Kept : Table → Table → (ℕ → ℕ → Type 0) → Type 0
-Kept M N R = (q r : ℕ) → R q r → Match M N R q r
+abbrev pub RulesKeep : Table → Table → (ℕ → ℕ → Type 0) → Type 0
+RulesKeep M N R = (q r : ℕ) → R q r → Match M N R q r
 
 -- Twins by k rounds of comparing rules: any two states are twins by no round.
 abbrev pub Twin : Table → Table → ℕ → ℕ → ℕ → Type 0

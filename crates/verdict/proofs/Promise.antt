@@ -17,7 +17,7 @@ use Rattle.end_laws.specs.Meaning.{Witnessed, Covering}
 use Rattle.end_laws.specs.Companion.{freeRow, judgeBy}
 use Rattle.end_laws.proofs.Told.{lives-word, dead-word, clean-state, unclean-state}
 use Rattle.end_laws.proofs.Local.{all-apart, free-left, unfree-left, free-start, stuck-start}
-use Rattle.end_laws.proofs.Companion.{Tells, judged-by}
+use Rattle.end_laws.proofs.Companion.{CheckTells, judged-by}
 use Rattle.summary.specs.Codes.{K}
 use Rattle.checks.specs.Checks.{checkAt, allChecks}
 
@@ -37,7 +37,7 @@ pub record Known (M : Table) (m xs ys : List ℕ) : Type 0 where
 
 module _ (M : Table) (m xs ys : List ℕ) (k : Known M m xs ys) where
   -- 13
-  tells-reached : Tells (checkAt 13 M m xs ys) (record { number = 13; places = M .states; holds = Reached M })
+  tells-reached : CheckTells (checkAt 13 M m xs ys) (record { number = 13; places = M .states; holds = Reached M })
   tells-reached = record {
     number = refl;
     places = refl;
@@ -48,7 +48,7 @@ module _ (M : Table) (m xs ys : List ℕ) (k : Known M m xs ys) where
   -- The others, where 13 is met
   module _ (all : AllReached M) where
     -- 14
-    tells-word : Tells (checkAt 14 M m xs ys) (record { number = 14; places = M .states; holds = HasWord M })
+    tells-word : CheckTells (checkAt 14 M m xs ys) (record { number = 14; places = M .states; holds = HasWord M })
     tells-word = record {
       number = refl;
       places = refl;
@@ -58,7 +58,7 @@ module _ (M : Table) (m xs ys : List ℕ) (k : Known M m xs ys) where
     }
 
     -- 15
-    tells-prefix : Tells (checkAt 15 M m xs ys) (record { number = 15; places = M .states; holds = λ q. NoPrefix (L M q) })
+    tells-prefix : CheckTells (checkAt 15 M m xs ys) (record { number = 15; places = M .states; holds = λ q. NoPrefix (L M q) })
     tells-prefix = record {
       number = refl;
       places = refl;
@@ -68,7 +68,7 @@ module _ (M : Table) (m xs ys : List ℕ) (k : Known M m xs ys) where
     }
 
     -- 16
-    tells-suffix : Tells (checkAt 16 M m xs ys) (record { number = 16; places = M .states; holds = λ q. NoSuffix (L M q) })
+    tells-suffix : CheckTells (checkAt 16 M m xs ys) (record { number = 16; places = M .states; holds = λ q. NoSuffix (L M q) })
     tells-suffix = record {
       number = refl;
       places = refl;
@@ -79,7 +79,7 @@ module _ (M : Table) (m xs ys : List ℕ) (k : Known M m xs ys) where
 
     module _ (n : (q : ℕ) → q < M .states → NoPrefix (L M q)) where
       -- 17, where no state has a common prefix
-      tells-start : Tells (checkAt 17 M m xs ys) (record { number = 17; places = 1; holds = λ p. LeftStart M })
+      tells-start : CheckTells (checkAt 17 M m xs ys) (record { number = 17; places = 1; holds = λ p. LeftStart M })
       tells-start =
           record {
             number = refl;
@@ -89,7 +89,7 @@ module _ (M : Table) (m xs ys : List ℕ) (k : Known M m xs ys) where
           }
 
       -- 18, where no state has a common prefix
-      tells-rules : Tells (checkAt 18 M m xs ys)
+      tells-rules : CheckTells (checkAt 18 M m xs ys)
           (record { number = 18; places = length (M .rows); holds = λ i. (r : Row) → getElem? (M .rows) i ≡ some r → LeftRule M (r .rule) })
       tells-rules =
           record {

@@ -1,7 +1,8 @@
--- When a set has no common prefix or suffix: it holds the empty word, or two words that begin or end with different letters. And when it has one.
-use mathlib.Core.Path.{_≡_, refl, sym, ap, _∙_, subst}
+-- When a set has no common prefix or suffix: it holds the empty word, or two words that begin or end with different letters.
+-- And when it has one.
+use mathlib.Core.Path.{_≡_, refl, sym, _∙_, subst}
 use mathlib.Core.Logic.{_≢_}
-use mathlib.Core.List.{[], _∷_, _++_, append-assoc, reverse, reverse-append, nil≢cons, cons≢nil, head-eq-of-cons-eq}
+use mathlib.Core.List.{[], _∷_, _++_, reverse, reverse-append, nil≢cons, cons≢nil, head-eq-of-cons-eq}
 use mathlib.Core.Option.{Option}
 use Prim.Native.Nat.{ℕ}
 use Rattle.words.specs.Word.{Word, Holds, NoPrefix, NoSuffix}
@@ -53,23 +54,3 @@ module _ {I J : Type 0} (X : I → Option Word) (Y : J → Option Word) where
   -- A set has no common suffix if a part of it has none.
   pub part-no-suffix : ((w : Word) → Holds X w → Holds Y w) → NoSuffix X → NoSuffix Y
   part-no-suffix part n s c = n s (λ w h. c w (part w h))
-
-  -- A set has no common prefix if words that each begin with one of its words have none.
-  pub front-no-prefix : ((w : Word) → Holds Y w → (x : Word) × (s : Word) × Holds X x × (w ≡ x ++ s)) → NoPrefix Y → NoPrefix X
-  front-no-prefix front n p c = n p each
-    where
-      each : (w : Word) → Holds Y w → (s : Word) × (w ≡ p ++ s)
-      each w h =
-          let f = front w h in
-          let k = c (f .0) (f .2) in
-          (k .0 ++ f .1, f .3 ∙ ap (λ x. x ++ f .1) (k .1) ∙ append-assoc p (k .0) (f .1))
-
-  -- A set has no common suffix if words that each end with one of its words have none.
-  pub back-no-suffix : ((w : Word) → Holds Y w → (x : Word) × (p : Word) × Holds X x × (w ≡ p ++ x)) → NoSuffix Y → NoSuffix X
-  back-no-suffix back n s c = n s each
-    where
-      each : (w : Word) → Holds Y w → (p : Word) × (w ≡ p ++ s)
-      each w h =
-          let f = back w h in
-          let k = c (f .0) (f .2) in
-          (f .1 ++ k .0, f .3 ∙ ap (λ x. f .1 ++ x) (k .1) ∙ sym (append-assoc (f .1) (k .0) s))

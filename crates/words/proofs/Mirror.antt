@@ -1,9 +1,9 @@
 -- A set of words read backwards: its common prefixes are the common suffixes of the set.
-use mathlib.Core.Path.{_≡_, refl, sym, ap, _∙_}
+use mathlib.Core.Path.{_≡_, sym, ap, _∙_}
 use mathlib.Core.Logic.{_↔_}
 use mathlib.Core.List.{[], _++_, reverse, reverse-append, reverse-reverse}
 use mathlib.Core.Option.{Option, none, some, Option·some-injective, Option·none-ne-some}
-use Rattle.words.specs.Word.{Word, _⊕_, Holds, NoPrefix, NoSuffix}
+use Rattle.words.specs.Word.{Word, Holds, NoPrefix, NoSuffix}
 
 -- An answer's word read backwards.
 abbrev pub backwards : Option Word → Option Word
@@ -13,13 +13,6 @@ backwards (some w) = some (reverse w)
 -- The set of the words read backwards.
 abbrev pub mirror : {I : Type 0} → (I → Option Word) → I → Option Word
 mirror X i = backwards (X i)
-
--- Two words joined are read backwards from the second to the first.
-pub backwards-join : (a b : Option Word) → backwards (a ⊕ b) ≡ backwards b ⊕ backwards a
-backwards-join none none = refl
-backwards-join none (some v) = refl
-backwards-join (some u) none = refl
-backwards-join (some u) (some v) = ap some (reverse-append u v)
 
 -- A word that read backwards is p and then s is s backwards and then p backwards.
 turned : (w p s : Word) → reverse w ≡ p ++ s → w ≡ reverse s ++ reverse p
@@ -35,19 +28,12 @@ module _ {I : Type 0} (X : I → Option Word) where
   mirror-holds w h = (h .0, ap backwards (h .1))
 
   -- A word of the mirror is backwards in the set.
-  pub holds-mirror : (w : Word) → Holds (mirror X) w → Holds X (reverse w)
+  holds-mirror : (w : Word) → Holds (mirror X) w → Holds X (reverse w)
   holds-mirror w h = (h .0, go (X (h .0)) (h .1))
     where
       go : (o : Option Word) → backwards o ≡ some w → o ≡ some (reverse w)
       go none e = absurd (Option·none-ne-some w e)
       go (some u) e = ap some (sym (reverse-reverse u) ∙ ap reverse (Option·some-injective _ _ e))
-
-  -- A set has no common prefix exactly when its mirror has no common suffix.
-  pub prefix-suffix : NoPrefix X ↔ NoSuffix (mirror X)
-  prefix-suffix = (
-    λ n s c. empty-backwards s (n (reverse s) (λ w h. let k = c (reverse w) (mirror-holds w h) in (reverse (k .0), turned w (k .0) s (k .1)))),
-    λ n p c. empty-backwards p (n (reverse p) (λ w h. let k = c (reverse w) (holds-mirror w h) in (reverse (k .0), turned w p (k .0) (k .1)))),
-  )
 
   -- A set has no common suffix exactly when its mirror has no common prefix.
   pub suffix-prefix : NoSuffix X ↔ NoPrefix (mirror X)

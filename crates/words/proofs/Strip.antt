@@ -42,19 +42,25 @@ module _ {I : Type 0} where
       (levi w (y .0) u v (sym (y .2)))
 
   -- Fixing the left word: two sets with no common prefix, the same behind u and v. Then u and v are equal, and so are the sets.
-  pub fix-left : (X Y : I → Option Word) (u v w : Word) → NoPrefix X → NoPrefix Y → Holds X w → ((i : I) → some u ⊕ X i ≡ some v ⊕ Y i) → (u ≡ v) × ((i : I) → X i ≡ Y i)
+  pub fix-left : (X Y : I → Option Word) (u v w : Word) → NoPrefix X → NoPrefix Y → Holds X w
+      → ((i : I) → some u ⊕ X i ≡ some v ⊕ Y i)
+      → (u ≡ v) × ((i : I) → X i ≡ Y i)
   fix-left X Y u v w nX nY h e =
       let p : u ≡ v = same-left X Y u v w nX nY h e in
       (p, λ i. cancel-left v (X i) (Y i) (rw p at (e i)))
 
   -- Fixing the right word: two sets with no common suffix, the same before u and v. Then u and v are equal, and so are the sets.
-  pub fix-right : (X Y : I → Option Word) (u v w : Word) → NoSuffix X → NoSuffix Y → Holds X w → ((i : I) → X i ⊕ some u ≡ Y i ⊕ some v) → (u ≡ v) × ((i : I) → X i ≡ Y i)
+  pub fix-right : (X Y : I → Option Word) (u v w : Word) → NoSuffix X → NoSuffix Y → Holds X w
+      → ((i : I) → X i ⊕ some u ≡ Y i ⊕ some v)
+      → (u ≡ v) × ((i : I) → X i ≡ Y i)
   fix-right X Y u v w nX nY h e =
       let p : u ≡ v = same-right X Y u v w nX nY h e in
       (p, λ i. cancel-right v (X i) (Y i) (rw p at (e i)))
 
 -- Splitting: two products of sets are the same, and the first sets have no common suffix. Then the first sets are the same, and so are the second.
-pub split : {I J : Type 0} (X Y : I → Option Word) (A B : J → Option Word) (w r : Word) → NoSuffix X → NoSuffix Y → Holds X w → Holds A r → ((i : I) (j : J) → X i ⊕ A j ≡ Y i ⊕ B j) → ((i : I) → X i ≡ Y i) × ((j : J) → A j ≡ B j)
+pub split : {I J : Type 0} (X Y : I → Option Word) (A B : J → Option Word) (w r : Word)
+    → NoSuffix X → NoSuffix Y → Holds X w → Holds A r → ((i : I) (j : J) → X i ⊕ A j ≡ Y i ⊕ B j)
+    → ((i : I) → X i ≡ Y i) × ((j : J) → A j ≡ B j)
 split {I} X Y A B w r nX nY h k e =
     let b = both-of (Y (h .0)) (B (k .0)) (w ++ r) (sym (e (h .0) (k .0)) ∙ rw (h .1, k .1)) in
     let same : (i : I) → X i ≡ Y i = fix-right X Y r (b .1) w nX nY h (λ i. cc (e i (k .0), k .1, b .3)) .1 in

@@ -8,13 +8,17 @@ use lib.Dec.{eqb}
 use lib.ListN.{length}
 use Rattle.words.specs.Word.{Word, spaces}
 
+-- One letter before a word with n spaces: how many there are then, by whether the letter is a space.
+abbrev counted : Bool → ℕ → ℕ
+counted b n = elim b [ true ↦ suc n | false ↦ n ]
+
 -- Two words joined have the spaces of both.
 pub spaces-append : (u v : Word) → spaces (u ++ v) ≡ spaces u + spaces v
 unfolding spaces
 spaces-append [] v = omega arith
 spaces-append (x ∷ u) v = go (eqb x 0x20) (spaces-append u v)
   where
-    go : (b : Bool) → spaces (u ++ v) ≡ spaces u + spaces v → elim b as (λ y. ℕ) [ true ↦ suc (spaces (u ++ v)) | false ↦ spaces (u ++ v) ] ≡ elim b as (λ y. ℕ) [ true ↦ suc (spaces u) | false ↦ spaces u ] + spaces v
+    go : (b : Bool) → spaces (u ++ v) ≡ spaces u + spaces v → counted b (spaces (u ++ v)) ≡ counted b (spaces u) + spaces v
     go true h = omega arith
     go false h = h
 
@@ -24,6 +28,6 @@ unfolding spaces
 spaces-length [] = omega arith
 spaces-length (x ∷ w) = go (eqb x 0x20) (spaces-length w)
   where
-    go : (b : Bool) → spaces w ≤ length w → elim b as (λ y. ℕ) [ true ↦ suc (spaces w) | false ↦ spaces w ] ≤ length (x ∷ w)
+    go : (b : Bool) → spaces w ≤ length w → counted b (spaces w) ≤ length (x ∷ w)
     go true h = omega arith
     go false h = omega arith
