@@ -1,10 +1,10 @@
 -- Frames, told apart by their first byte: what a frame makes of the table read so far. Definitions only.
 use mathlib.Core.Bool.{Bool, true, false, _&&_, _||_}
 use mathlib.Core.List.{List, [], _∷_, _++_}
-use Prim.Native.Nat.{ℕ, zero, suc}
+use Prim.Native.Nat.{ℕ}
 use lib.Dec.{eqb, ltb}
 use lib.ListN.{length, getD}
-use Rattle.machine.specs.Machine.{Child, Rule, Row, Table}
+use Rattle.machine.specs.Machine.{Row, Table}
 use Rattle.text.specs.Limits.{symbolsMost, arityMost, statesMost, rowsMost}
 use Rattle.text.specs.Fields.{Parsed, got, fault, Field, _>>=_, andThen, pure, check, within, below, text, children}
 
