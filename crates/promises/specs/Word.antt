@@ -29,11 +29,11 @@ unfoldable pub wordAnswer : List ℕ → List ℕ → ℕ → Reply Word
 wordAnswer text tree room = into room (readTable text then λ M. wordOn M tree)
 
 -- A word's answer holds its length and number of terms.
-pub record Letters : Type 0 where
+pub record WordCounts : Type 0 where
   pub length : ℕ
   pub terms : ℕ
 
-abbrev pub lettersOf : Word → Letters
+abbrev pub lettersOf : Word → WordCounts
 lettersOf w = record { length = length w; terms = terms w }
 
 -- The answer of the word call for an opened table, tree bytes and so many bytes of room.
