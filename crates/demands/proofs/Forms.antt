@@ -24,14 +24,14 @@ use Rattle.promises.specs.Comparison.{same, different, ComparisonAnswer}
 use Rattle.promises.proofs.Judgement.{judged-as}
 
 -- What a text's form says of the table M that the text is read as.
-record Formed (text : List ℕ) (M F : Table) : Type 0 where
+record FormSays (text : List ℕ) (M F : Table) : Type 0 where
   limited : Limited M
   earliest-table : Earliest M
   is : IsForm M F
   form-limits : Limited F
 
 -- A text's form says that.
-formed : (text : List ℕ) (M F : Table) → readTable text ≡ given M → FormOfText text F → Formed text M F
+formed : (text : List ℕ) (M F : Table) → readTable text ≡ given M → FormOfText text F → FormSays text M F
 formed text M F e o =
     let i : o .table ≡ M = given-injective (o .table) M (sym (o .read) ∙ e) in
     let f : IsForm M F = subst (λ (x : Table). IsForm x F) i (o .form) in
@@ -54,7 +54,7 @@ form-earliest-same text out M e h =
     (F, read, isForm-earliest M F made (d .is) (d .earliest-table), isForm-agrees M F made (d .is))
 
 -- The forms of two earliest texts with one symbol list are one table exactly when the tables agree.
-formed-agree : (first second : List ℕ) (M N F G : Table) → Formed first M F → Formed second N G → M .arities ≡ N .arities → (F ≡ G) ↔ Agree M N
+formed-agree : (first second : List ℕ) (M N F G : Table) → FormSays first M F → FormSays second N G → M .arities ≡ N .arities → (F ≡ G) ↔ Agree M N
 formed-agree first second M N F G d d′ a =
     forms-agree M N F G (d .limited .made) (d′ .limited .made) (d .is) (d′ .is) (d .earliest-table) (d′ .earliest-table) a
 

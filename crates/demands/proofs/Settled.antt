@@ -76,16 +76,16 @@ one-no t text n p m r h k = ap (comparison.refusal t) (late-injective (noAt n p)
 
 module _ (first second : List ℕ) where
   -- An answer of the comparison by its cause: the first text is late, the second is, or both have a form.
-  data Cause : Comparison → Type 0 where
-    first-late : (n p : ℕ) → JudgementAnswer first (late n p) → Cause (comparison.refused 1 n p)
-    second-late : (n p : ℕ) → JudgementAnswer first earliest → JudgementAnswer second (late n p) → Cause (comparison.refused 2 n p)
-    formed : (F G : Table) {a : Comparison} → Forms first second F G → Outcome F G a → Cause a
+  data ComparisonCause : Comparison → Type 0 where
+    first-late : (n p : ℕ) → JudgementAnswer first (late n p) → ComparisonCause (comparison.refused 1 n p)
+    second-late : (n p : ℕ) → JudgementAnswer first earliest → JudgementAnswer second (late n p) → ComparisonCause (comparison.refused 2 n p)
+    formed : (F G : Table) {a : Comparison} → Forms first second F G → Outcome F G a → ComparisonCause a
 
   -- A no that has number 19.
-  nineteen : (x : No) → x .number ≡ 19 → Cause (comparison.refused 0 19 (x .place)) → Cause (comparison.refusal 0 x)
-  nineteen x e h = subst (λ (n : ℕ). Cause (comparison.refused 0 n (x .place))) (sym e) h
+  nineteen : (x : No) → x .number ≡ 19 → ComparisonCause (comparison.refused 0 19 (x .place)) → ComparisonCause (comparison.refusal 0 x)
+  nineteen x e h = subst (λ (n : ℕ). ComparisonCause (comparison.refused 0 n (x .place))) (sym e) h
 
-  cause : (a : Comparison) → ComparisonAnswer first second a → Cause a
+  cause : (a : Comparison) → ComparisonAnswer first second a → ComparisonCause a
   cause same h = formed (h .0) (h .0) (h .1) (one-form refl)
   cause different h = formed (h .0) (h .1) (h .2) (two-forms (h .3) (h .4))
   cause (comparison.refusal zero x) h = nineteen x (h .3) (formed (h .0) (h .1) (h .2) (two-lists (x .place) (h .4)))
@@ -93,7 +93,7 @@ module _ (first second : List ℕ) where
   cause (comparison.refusal (suc (suc zero)) x) h = second-late (x .number) (x .place) (h .0) (h .1)
   cause (comparison.refusal (suc (suc (suc k))) x) h = absurd h
 
-  cause-one : (a b : Comparison) → Cause a → Cause b → a ≡ b
+  cause-one : (a b : Comparison) → ComparisonCause a → ComparisonCause b → a ≡ b
   cause-one _ _ (first-late n p h) (first-late m r k) = one-no 1 first n p m r h k
   cause-one _ _ (first-late n p h) (second-late m r k l) = absurd (not-both first n p k h)
   cause-one _ _ (first-late n p h) (formed F G f o) = absurd (not-both first n p (f .one .judged) h)

@@ -23,6 +23,7 @@ pub data Comparison : Type 0 where
 abbrev pub refused : ℕ → ℕ → ℕ → Comparison
 refused t n p = refusal t (noAt n p)
 
+-- An index of the rests as one of the lists.
 abbrev pub later : Option ℕ → Option ℕ
 later none = none
 later (some i) = some (suc i)

@@ -11,12 +11,13 @@ use Rattle.trees.specs.Shape.{readTree}
 use Rattle.trees.specs.Lacking.{lacks}
 use Rattle.promises.specs.Room.{into, filled}
 
--- The table's word on a tree, or 9 at the first position without a rule.
+-- A word that is there, or 9 at the first position without a rule.
 abbrev pub wordOr : Option Word → Option ℕ → Reply Word
 wordOr (some w) lacking = given w
 wordOr none (some p) = refused 9 p
 wordOr none none = refused 9 0
 
+-- The table's word on a tree, or 9.
 unfoldable pub wordIn : Table → Tree → Reply Word
 wordIn M t = wordOr (output M t) (lacks M (M .start) t 0)
 
@@ -33,6 +34,7 @@ pub record WordCounts : Type 0 where
   pub length : ℕ
   pub terms : ℕ
 
+-- The length and the number of terms of a word.
 abbrev pub lettersOf : Word → WordCounts
 lettersOf w = record { length = length w; terms = terms w }
 

@@ -25,7 +25,7 @@ use Rattle.end_laws.specs.Cases.{m2-earliest}
 use Rattle.promises.specs.Word.{wordIn, wordOn, wordAnswer, wordRoom}
 use Rattle.promises.specs.Judgement.{JudgementAnswer}
 use Rattle.starred.specs.Texts.{M2-earliest, M2-form}
-use Rattle.starred.specs.Cases.{form, CaseHolds, All, others}
+use Rattle.starred.specs.Cases.{form, CaseHolds, AllHold, others}
 use Rattle.starred.proofs.Starred.{read-judged, _also_}
 
 -- ---- the form of M2's earliest table
@@ -89,7 +89,7 @@ unfolding readTable readLines linesOf bytesOf digit step symbolFrame startFrame 
 four-states = (formed, record { table = m2-earliest; read = refl; judged = judged-earliest; form = is-form }, refl)
 
 -- Every case without a star holds.
-pub others-hold : All others
+pub others-hold : AllHold others
 unfolding wordAnswer wordRoom wordOn wordIn
     readTable readLines linesOf bytesOf digit step symbolFrame startFrame ruleFrame within below letters text children lines characters
     readTree treeAt forestAt word find lacks preorder spaces terms

@@ -24,7 +24,7 @@ use Rattle.end_laws.proofs.Companion.{judge-judged}
 use Rattle.promises.specs.Word.{wordIn, wordOn, wordAnswer, wordRoom}
 use Rattle.promises.specs.Judgement.{JudgementAnswer}
 use Rattle.starred.specs.Texts.{T, T-form, M1, M1-earliest, M2, turn}
-use Rattle.starred.specs.Cases.{form, CaseHolds, All, cases}
+use Rattle.starred.specs.Cases.{form, CaseHolds, AllHold, cases}
 
 -- A text that is read as M has the verdict that the companion computes of M.
 pub read-judged : (t : List ℕ) (M : Table) (v : Verdict) → readTable t ≡ given M → judge M ≡ v → JudgementAnswer t v
@@ -43,7 +43,7 @@ abbrev pub _also_ : {A B : Type 0} → A → B → A × B
 _also_ a b = (a, b)
 
 -- Every starred case holds.
-pub starred : All cases
+pub starred : AllHold cases
 unfolding wordAnswer wordRoom wordOn wordIn
     readTable readLines linesOf bytesOf digit step symbolFrame startFrame ruleFrame within below letters text children lines characters
     readTree treeAt forestAt word find lacks preorder spaces terms

@@ -70,6 +70,6 @@ others =
     ∷ []
 
 -- Every case of a list holds.
-abbrev pub All : List Case → Type 0
-All [] = Unit {0}
-All (c ∷ cs) = CaseHolds c × All cs
+abbrev pub AllHold : List Case → Type 0
+AllHold [] = Unit {0}
+AllHold (c ∷ cs) = CaseHolds c × AllHold cs

@@ -17,7 +17,7 @@ use Rattle.text.proofs.Digits.{hex-bytes}
 use Rattle.text.proofs.Lines.{lines-frame}
 use Rattle.text.proofs.Fields.{most-append, StatesBelow, ShortWords}
 use Rattle.text.proofs.Rising.{rising-rises}
-use Rattle.text.proofs.Frames.{Started, RowDue, withRows, Takes, symbol, start, row, end, takes-step}
+use Rattle.text.proofs.Frames.{StartLimits, RowDue, withRows, Takes, symbol, start, row, end, takes-step}
 use Rattle.text.proofs.Reading.{read-next, read-fit}
 use Rattle.text.proofs.Stages.{fits-with}
 
@@ -37,7 +37,7 @@ children-bytes n l (c ∷ cs) h k =
     (omega (arith, h .0), most-append 255 (textOf (c .after)) (childrenText cs) word later)
 
 -- The initial frame's bytes.
-initial-bytes : (M : Table) → Started M → AtMost 255 (initialFrame M)
+initial-bytes : (M : Table) → StartLimits M → AtMost 255 (initialFrame M)
 unfolding initialFrame
 initial-bytes M h =
     let before = text-bytes (M .before) (h .before) in
@@ -116,7 +116,7 @@ read-lines M h =
     let from-rows = rowLines (M .rows) ++ last in
     let from-start = lineOf (initialFrame M) ++ from-rows in
     let first = withRows M [] in
-    let started : Started first =
+    let started : StartLimits first =
     record { some-symbol = h .some-symbol; states = h .states; before = h .before; start = h .made .start; after = h .after } in
     let takes = start first refl refl refl refl started in
     ap (λ t. readLines (symbols []) 0 (linesOf t)) (write-parts M)

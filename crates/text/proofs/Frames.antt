@@ -17,7 +17,7 @@ use Rattle.text.proofs.Fields.{then-inv, then-got, check-got, check-inv
 use Rattle.text.proofs.Fields.{text-read, text-short, children-read, children-inv}
 
 -- The initial rule of a table is within the limits.
-pub record Started (M : Table) : Type 0 where
+pub record StartLimits (M : Table) : Type 0 where
   pub some-symbol : 1 ≤ length (M .arities)
   pub states : M .states ≤ statesMost
   pub before : Short (M .before)
@@ -39,7 +39,7 @@ withRows M rs = record { arities = M .arities; states = M .states; before = M .b
 pub data Takes (s : Stage) (frame : List ℕ) (s′ : Stage) : Type 0 where
   symbol : (ks : List ℕ) (a : ℕ) → s ≡ symbols ks → frame ≡ 1 ∷ a ∷ [] → s′ ≡ symbols (ks ++ a ∷ [])
       → length ks < symbolsMost → a ≤ arityMost → Takes s frame s′
-  start : (M : Table) → s ≡ symbols (M .arities) → frame ≡ initialFrame M → s′ ≡ rules M → M .rows ≡ [] → Started M → Takes s frame s′
+  start : (M : Table) → s ≡ symbols (M .arities) → frame ≡ initialFrame M → s′ ≡ rules M → M .rows ≡ [] → StartLimits M → Takes s frame s′
   row : (M : Table) (r : Row) → s ≡ rules M → frame ≡ rowFrame r → s′ ≡ rules (withRow M r) → RowDue M r → Takes s frame s′
   end : (M : Table) → s ≡ rules M → frame ≡ 4 ∷ [] → s′ ≡ ended M → Takes s frame s′
 
@@ -60,7 +60,7 @@ step-symbol [] a h k = ap whole (symbol-read [] a h k)
 step-symbol (x ∷ ks) a h k = ap whole (symbol-read (x ∷ ks) a h k)
 
 -- Frame 02 is read.
-start-read : (M : Table) → Started M
+start-read : (M : Table) → StartLimits M
     → startFrame (M .arities) (M .states ∷ textOf (M .before) ++ M .start ∷ textOf (M .after)) ≡ got (rules (withRows M [])) []
 unfolding startFrame
 start-read M h =
@@ -72,7 +72,7 @@ start-read M h =
     ∙ then-got _ _ (M .after) [] last
 
 -- Frame 02 takes symbols to a table with no rules.
-step-start : (ks : List ℕ) (M : Table) → ks ≡ M .arities → M .rows ≡ [] → Started M → step (symbols ks) (initialFrame M) ≡ next (rules M)
+step-start : (ks : List ℕ) (M : Table) → ks ≡ M .arities → M .rows ≡ [] → StartLimits M → step (symbols ks) (initialFrame M) ≡ next (rules M)
 unfolding step initialFrame
 step-start [] M e f h = absurd (omega (arith, ap length e, h .some-symbol))
 step-start (x ∷ ks) M e f h =

@@ -11,7 +11,7 @@ use Rattle.text.specs.Frames.{Stage, symbols, rules, ended, withRow}
 use Rattle.text.specs.Writing.{rowFrame, initialFrame, symbolLines, rowLines, writeTable, AtMost, ShortRow, Limited}
 use Rattle.text.proofs.Fields.{most-append}
 use Rattle.text.proofs.Rising.{rising-snoc}
-use Rattle.text.proofs.Frames.{Started, RowDue, withRows, Takes, symbol, start, row, end}
+use Rattle.text.proofs.Frames.{StartLimits, RowDue, withRows, Takes, symbol, start, row, end}
 
 -- The limits of a table, if its text is not too long.
 abbrev pub Bounded : Table → Type 0
@@ -72,7 +72,7 @@ pub fits-with : (M : Table) (rs : List Row) (r : Row) → RowFits M r → RowFit
 fits-with M rs r h = record { state = h .state; symbol = h .symbol; arity = h .arity; children = h .children }
 
 -- A table that is started is within the limits if its symbols are.
-start-bounded : (M : Table) → M .rows ≡ [] → (length (M .arities) ≤ symbolsMost) × AtMost arityMost (M .arities) → Started M → Bounded M
+start-bounded : (M : Table) → M .rows ≡ [] → (length (M .arities) ≤ symbolsMost) × AtMost arityMost (M .arities) → StartLimits M → Bounded M
 start-bounded M e w h k = record {
   made = record { start = h .start; rows = rw e tt; rising = rw e tt };
   some-symbol = h .some-symbol;

@@ -158,8 +158,8 @@ module _ (M : Table) where
   scan-root q g ts (some r) n b rest e h = scan-below q g ts r e (rest (r .rest)) n b (h r refl)
 
   -- What going over a whole tree from place 0 on finds.
-  abbrev Scanned : Tree → ℕ → Option ℕ → Type 0
-  Scanned t q o = Scan (λ i s f. Stands M s f q t i) (length (preorder t)) 0 o
+  abbrev ScannedTree : Tree → ℕ → Option ℕ → Type 0
+  ScannedTree t q o = Scan (λ i s f. Stands M s f q t i) (length (preorder t)) 0 o
 
   module _ (made : WellMade M) where
     mutual
@@ -186,18 +186,18 @@ module _ (M : Table) where
       -- The place that `lacks` finds is the first position without a rule, and that position is found.
       pub lacks-first : (p : ℕ) → (lacks M q t 0 ≡ some p) ↔ FirstLacking M q t p
       lacks-first p =
-          (λ e. found p (subst (Scanned t q) e (tree-scan t q 0 ranked)), λ h. back h (lacks M q t 0) refl (tree-scan t q 0 ranked))
+          (λ e. found p (subst (ScannedTree t q) e (tree-scan t q 0 ranked)), λ h. back h (lacks M q t 0) refl (tree-scan t q 0 ranked))
         where
-          found : (p′ : ℕ) → Scanned t q (some p′) → FirstLacking M q t p′
+          found : (p′ : ℕ) → ScannedTree t q (some p′) → FirstLacking M q t p′
           found p′ h = let e : h .0 ≡ p′ = omega (arith, h .1) in subst (FirstLacking M q t) e (record { there = h .2; before = h .3 })
 
-          back : FirstLacking M q t p → (o : Option ℕ) → lacks M q t 0 ≡ o → Scanned t q o → lacks M q t 0 ≡ some p
+          back : FirstLacking M q t p → (o : Option ℕ) → lacks M q t 0 ≡ o → ScannedTree t q o → lacks M q t 0 ≡ some p
           back h none e k = absurd (not-both (k p (stands-symbol (h .there .stands) .1)) (h .there))
           back h (some p′) e k = e ∙ ap (λ (a : ℕ). some a) (first-one (found p′ k) h)
 
       -- `lacks` finds nothing exactly if every position of the tree has a rule.
       pub lacks-nowhere : (lacks M q t 0 ≡ none) ↔ ((i : ℕ) → i < length (preorder t) → Ruled M (λ s f. Stands M s f q t i))
-      lacks-nowhere = (λ e. subst (Scanned t q) e (tree-scan t q 0 ranked), λ h. back h (lacks M q t 0) refl)
+      lacks-nowhere = (λ e. subst (ScannedTree t q) e (tree-scan t q 0 ranked), λ h. back h (lacks M q t 0) refl)
         where
           back : ((i : ℕ) → i < length (preorder t) → Ruled M (λ s f. Stands M s f q t i))
               → (o : Option ℕ) → lacks M q t 0 ≡ o → lacks M q t 0 ≡ none

@@ -7,9 +7,11 @@ use lib.ListN.{length, getD}
 use Rattle.words.specs.Reply.{Reply, given, refused, _then_, refuse-if}
 use Rattle.machine.specs.Machine.{Tree, Forest, node, ∅, _▸_}
 
+-- The most bytes of a tree.
 abbrev pub treeMost : ℕ
 treeMost = 32768
 
+-- The most levels of a tree.
 abbrev pub depthMost : ℕ
 depthMost = 64
 
