@@ -24,13 +24,14 @@ use Rattle.promises.specs.Comparison.{same, different, ComparisonAnswer}
 use Rattle.promises.proofs.Judgement.{judged-as}
 
 -- What a text's form says of the table M that the text is read as.
-pub record Formed (text : List ℕ) (M F : Table) : Type 0 where
-  pub limited : Limited M
-  pub earliest-table : Earliest M
-  pub is : IsForm M F
-  pub form-limits : Limited F
+record FormSays (text : List ℕ) (M F : Table) : Type 0 where
+  limited : Limited M
+  earliest-table : Earliest M
+  is : IsForm M F
+  form-limits : Limited F
 
-pub formed : (text : List ℕ) (M F : Table) → readTable text ≡ given M → FormOfText text F → Formed text M F
+-- A text's form says that.
+formed : (text : List ℕ) (M F : Table) → readTable text ≡ given M → FormOfText text F → FormSays text M F
 formed text M F e o =
     let i : o .table ≡ M = given-injective (o .table) M (sym (o .read) ∙ e) in
     let f : IsForm M F = subst (λ (x : Table). IsForm x F) i (o .form) in
@@ -43,33 +44,52 @@ formed text M F e o =
     }
 
 -- (a) The form's text is read as an earliest table, which gives every finite tree what the original gives it.
-pub form-earliest-same : (text out : List ℕ) (M : Table) → readTable text ≡ given M → FormText text (given out) → (F : Table) × (readTable out ≡ given F) × Earliest F × Agree F M
+pub form-earliest-same : (text out : List ℕ) (M : Table) → readTable text ≡ given M → FormText text (given out)
+    → (F : Table) × (readTable out ≡ given F) × Earliest F × Agree F M
 form-earliest-same text out M e h =
-    let d = formed text M (h .0) e (h .1) in
-    (h .0, ap readTable (h .2) ∙ read-write (h .0) (d .form-limits), isForm-earliest M (h .0) (d .limited .made) (d .is) (d .earliest-table), isForm-agrees M (h .0) (d .limited .made) (d .is))
+    let F = h .0 in
+    let d = formed text M F e (h .1) in
+    let made = d .limited .made in
+    let read = ap readTable (h .2) ∙ read-write F (d .form-limits) in
+    (F, read, isForm-earliest M F made (d .is) (d .earliest-table), isForm-agrees M F made (d .is))
 
--- (b) For two earliest texts with one symbol list the forms are byte for byte the same exactly when the tables give every finite tree the same word, or both none.
-pub forms-same-words : (first second out out′ : List ℕ) (M N : Table) → readTable first ≡ given M → readTable second ≡ given N → M .arities ≡ N .arities
-    → FormText first (given out) → FormText second (given out′) → (out ≡ out′) ↔ Agree M N
+-- The forms of two earliest texts with one symbol list are one table exactly when the tables agree.
+formed-agree : (first second : List ℕ) (M N F G : Table) → FormSays first M F → FormSays second N G → M .arities ≡ N .arities → (F ≡ G) ↔ Agree M N
+formed-agree first second M N F G d d′ a =
+    forms-agree M N F G (d .limited .made) (d′ .limited .made) (d .is) (d′ .is) (d .earliest-table) (d′ .earliest-table) a
+
+-- (b) For two earliest texts with one symbol list the forms are byte for byte the same exactly when the tables give every finite tree
+-- the same word, or both none.
+pub forms-same-words : (first second out out′ : List ℕ) (M N : Table) → readTable first ≡ given M → readTable second ≡ given N
+    → M .arities ≡ N .arities → FormText first (given out) → FormText second (given out′) → (out ≡ out′) ↔ Agree M N
 forms-same-words first second out out′ M N e e′ a h k =
-    let d = formed first M (h .0) e (h .1) in
-    let d′ = formed second N (k .0) e′ (k .1) in
-    let both = forms-agree M N (h .0) (k .0) (d .limited .made) (d′ .limited .made) (d .is) (d′ .is) (d .earliest-table) (d′ .earliest-table) a in
-    (λ i. both .0 (write-injective (h .0) (k .0) (d .form-limits) (d′ .form-limits) (sym (h .2) ∙ i ∙ k .2)), λ g. h .2 ∙ ap writeTable (both .1 g) ∙ sym (k .2))
+    let F = h .0 in
+    let G = k .0 in
+    let d = formed first M F e (h .1) in
+    let d′ = formed second N G e′ (k .1) in
+    let both = formed-agree first second M N F G d d′ a in (
+      λ i. both .0 (write-injective F G (d .form-limits) (d′ .form-limits) (sym (h .2) ∙ i ∙ k .2)),
+      λ g. h .2 ∙ ap writeTable (both .1 g) ∙ sym (k .2),
+    )
 
 -- "Same" is told only of tables that have one symbol list and agree on every finite tree.
-pub same-words : (first second : List ℕ) (M N : Table) → readTable first ≡ given M → readTable second ≡ given N → ComparisonAnswer first second same → (M .arities ≡ N .arities) × Agree M N
+pub same-words : (first second : List ℕ) (M N : Table) → readTable first ≡ given M → readTable second ≡ given N
+    → ComparisonAnswer first second same → (M .arities ≡ N .arities) × Agree M N
 same-words first second M N e e′ h =
-    let d = formed first M (h .0) e (h .1 .one) in
-    let d′ = formed second N (h .0) e′ (h .1 .two) in
-    (forms-arities M N (h .0) (h .0) (d .limited .made) (d′ .limited .made) (d .is) (d′ .is) refl, forms-words M N (h .0) (h .0) (d .limited .made) (d′ .limited .made) (d .is) (d′ .is) refl)
+    let F = h .0 in
+    let d = formed first M F e (h .1 .one) in
+    let d′ = formed second N F e′ (h .1 .two) in (
+      forms-arities M N F F (d .limited .made) (d′ .limited .made) (d .is) (d′ .is) refl,
+      forms-words M N F F (d .limited .made) (d′ .limited .made) (d .is) (d′ .is) refl,
+    )
 
 -- "Different" is told only of tables that do not agree on every finite tree.
-pub different-words : (first second : List ℕ) (M N : Table) → readTable first ≡ given M → readTable second ≡ given N → M .arities ≡ N .arities → ComparisonAnswer first second different → Agree M N → ⊥
+pub different-words : (first second : List ℕ) (M N : Table) → readTable first ≡ given M → readTable second ≡ given N
+    → M .arities ≡ N .arities → ComparisonAnswer first second different → Agree M N → ⊥
 different-words first second M N e e′ a h g =
     let d = formed first M (h .0) e (h .2 .one) in
     let d′ = formed second N (h .1) e′ (h .2 .two) in
-    h .4 (forms-agree M N (h .0) (h .1) (d .limited .made) (d′ .limited .made) (d .is) (d′ .is) (d .earliest-table) (d′ .earliest-table) a .1 g)
+    h .4 (formed-agree first second M N (h .0) (h .1) d d′ a .1 g)
 
 -- The form is never longer than the table's text.
 pub form-not-longer : (text out : List ℕ) (M : Table) → readTable text ≡ given M → FormText text (given out) → length out ≤ length text
@@ -79,9 +99,11 @@ form-not-longer text out M e h =
     rw (h .2, write-read text M e, f .form) (form-short (f .same) M (d .limited .made) (f .decides))
 
 -- The form of a form is the form.
-pub form-of-form-text : (text out again : List ℕ) (M : Table) → readTable text ≡ given M → FormText text (given out) → FormText out (given again) → again ≡ out
+pub form-of-form-text : (text out again : List ℕ) (M : Table) → readTable text ≡ given M
+    → FormText text (given out) → FormText out (given again) → again ≡ out
 form-of-form-text text out again M e h k =
-    let d = formed text M (h .0) e (h .1) in
-    let i : readTable out ≡ given (h .0) = ap readTable (h .2) ∙ read-write (h .0) (d .form-limits) in
-    let d′ = formed out (h .0) (k .0) i (k .1) in
-    k .2 ∙ ap writeTable (form-of-form M (h .0) (k .0) (d .limited .made) (d .earliest-table) (d .is) (d′ .is)) ∙ sym (h .2)
+    let F = h .0 in
+    let d = formed text M F e (h .1) in
+    let read : readTable out ≡ given F = ap readTable (h .2) ∙ read-write F (d .form-limits) in
+    let d′ = formed out F (k .0) read (k .1) in
+    k .2 ∙ ap writeTable (form-of-form M F (k .0) (d .limited .made) (d .earliest-table) (d .is) (d′ .is)) ∙ sym (h .2)

@@ -1,5 +1,6 @@
--- Demand 1: the form call has one answer for a text and so much room, and the comparison call one for two texts. For the judgement see promises, Judgement.
-use mathlib.Core.Path.{_≡_, refl, sym, ap, subst, _∙_}
+-- Demand 1: the form call has one answer for a text and so much room, and the comparison call one for two texts.
+-- For the judgement see promises, Judgement.
+use mathlib.Core.Path.{_≡_, refl, sym, ap, subst, subst₂, _∙_}
 use mathlib.Core.List.{List}
 use mathlib.Core.Option.{Option, none, some}
 use Prim.Native.Nat.{ℕ, zero, suc}
@@ -23,14 +24,16 @@ use Rattle.promises.proofs.Comparison.{parting-none}
 use Rattle.promises.proofs.Judgement.{judgement-one, not-both}
 
 -- A text has one form.
-pub form-of-text-one : (text : List ℕ) (F G : Table) → FormOfText text F → FormOfText text G → F ≡ G
+form-of-text-one : (text : List ℕ) (F G : Table) → FormOfText text F → FormOfText text G → F ≡ G
 form-of-text-one text F G f g =
     let i : g .table ≡ f .table = given-injective (g .table) (f .table) (sym (g .read) ∙ f .read) in
-    form-unique (f .table) F G (read-limited text (f .table) (f .read) .made) (f .form) (subst (λ (M : Table). IsForm M G) i (g .form))
+    let made = read-limited text (f .table) (f .read) .made in
+    form-unique (f .table) F G made (f .form) (subst (λ (M : Table). IsForm M G) i (g .form))
 
 -- A text's form, or the refusal in its place, is one.
-pub form-text-one : (text : List ℕ) (a b : Reply (List ℕ)) → FormText text a → FormText text b → a ≡ b
-form-text-one text (given x) (given y) h k = ap given (h .2 ∙ ap writeTable (form-of-text-one text (h .0) (k .0) (h .1) (k .1)) ∙ sym (k .2))
+form-text-one : (text : List ℕ) (a b : Reply (List ℕ)) → FormText text a → FormText text b → a ≡ b
+form-text-one text (given x) (given y) h k =
+    ap given (h .2 ∙ ap writeTable (form-of-text-one text (h .0) (k .0) (h .1) (k .1)) ∙ sym (k .2))
 form-text-one text (given x) (refusal y) h k = absurd (not-both text (y .number) (y .place) (h .1 .judged) k)
 form-text-one text (refusal x) (given y) h k = absurd (not-both text (x .number) (x .place) (k .1 .judged) h)
 form-text-one text (refusal x) (refusal y) h k = ap refusal (late-injective x y (judgement-one text (lateAs x) (lateAs y) h k))
@@ -52,7 +55,8 @@ module _ (F G : Table) where
 
   -- Equal forms have one symbol list.
   one-list : (p : ℕ) → F ≡ G → parting (F .arities) (G .arities) ≡ some p → ⊥
-  one-list p e = none-some (parting (F .arities) (G .arities)) p (parting-none (F .arities) (G .arities) .1 (ap (λ (H : Table). H .arities) e))
+  one-list p e =
+      none-some (parting (F .arities) (G .arities)) p (parting-none (F .arities) (G .arities) .1 (ap (λ (H : Table). H .arities) e))
 
   outcome-one : (a b : Comparison) → Outcome a → Outcome b → a ≡ b
   outcome-one _ _ (one-form e) (one-form i) = refl
@@ -65,18 +69,23 @@ module _ (F G : Table) where
   outcome-one _ _ (two-lists p i) (two-forms o n) = absurd (none-some (parting (F .arities) (G .arities)) p o i)
   outcome-one _ _ (two-lists p i) (two-lists r o) = cc
 
+-- A text that is late is told so with one number at one place.
+one-no : (t : ℕ) (text : List ℕ) (n p m r : ℕ) → JudgementAnswer text (late n p) → JudgementAnswer text (late m r)
+    → comparison.refused t n p ≡ comparison.refused t m r
+one-no t text n p m r h k = ap (comparison.refusal t) (late-injective (noAt n p) (noAt m r) (judgement-one text (late n p) (late m r) h k))
+
 module _ (first second : List ℕ) where
   -- An answer of the comparison by its cause: the first text is late, the second is, or both have a form.
-  data Cause : Comparison → Type 0 where
-    first-late : (n p : ℕ) → JudgementAnswer first (late n p) → Cause (comparison.refused 1 n p)
-    second-late : (n p : ℕ) → JudgementAnswer first earliest → JudgementAnswer second (late n p) → Cause (comparison.refused 2 n p)
-    formed : (F G : Table) {a : Comparison} → Forms first second F G → Outcome F G a → Cause a
+  data ComparisonCause : Comparison → Type 0 where
+    first-late : (n p : ℕ) → JudgementAnswer first (late n p) → ComparisonCause (comparison.refused 1 n p)
+    second-late : (n p : ℕ) → JudgementAnswer first earliest → JudgementAnswer second (late n p) → ComparisonCause (comparison.refused 2 n p)
+    formed : (F G : Table) {a : Comparison} → Forms first second F G → Outcome F G a → ComparisonCause a
 
   -- A no that has number 19.
-  nineteen : (x : No) → x .number ≡ 19 → Cause (comparison.refused 0 19 (x .place)) → Cause (comparison.refusal 0 x)
-  nineteen x e h = subst (λ (n : ℕ). Cause (comparison.refused 0 n (x .place))) (sym e) h
+  nineteen : (x : No) → x .number ≡ 19 → ComparisonCause (comparison.refused 0 19 (x .place)) → ComparisonCause (comparison.refusal 0 x)
+  nineteen x e h = subst (λ (n : ℕ). ComparisonCause (comparison.refused 0 n (x .place))) (sym e) h
 
-  cause : (a : Comparison) → ComparisonAnswer first second a → Cause a
+  cause : (a : Comparison) → ComparisonAnswer first second a → ComparisonCause a
   cause same h = formed (h .0) (h .0) (h .1) (one-form refl)
   cause different h = formed (h .0) (h .1) (h .2) (two-forms (h .3) (h .4))
   cause (comparison.refusal zero x) h = nineteen x (h .3) (formed (h .0) (h .1) (h .2) (two-lists (x .place) (h .4)))
@@ -84,18 +93,19 @@ module _ (first second : List ℕ) where
   cause (comparison.refusal (suc (suc zero)) x) h = second-late (x .number) (x .place) (h .0) (h .1)
   cause (comparison.refusal (suc (suc (suc k))) x) h = absurd h
 
-  cause-one : (a b : Comparison) → Cause a → Cause b → a ≡ b
-  cause-one _ _ (first-late n p h) (first-late m r k) = ap (comparison.refusal 1) (late-injective (noAt n p) (noAt m r) (judgement-one first (late n p) (late m r) h k))
+  cause-one : (a b : Comparison) → ComparisonCause a → ComparisonCause b → a ≡ b
+  cause-one _ _ (first-late n p h) (first-late m r k) = one-no 1 first n p m r h k
   cause-one _ _ (first-late n p h) (second-late m r k l) = absurd (not-both first n p k h)
   cause-one _ _ (first-late n p h) (formed F G f o) = absurd (not-both first n p (f .one .judged) h)
   cause-one _ _ (second-late n p h l) (first-late m r k) = absurd (not-both first m r h k)
-  cause-one _ _ (second-late n p h l) (second-late m r k j) = ap (comparison.refusal 2) (late-injective (noAt n p) (noAt m r) (judgement-one second (late n p) (late m r) l j))
+  cause-one _ _ (second-late n p h l) (second-late m r k j) = one-no 2 second n p m r l j
   cause-one _ _ (second-late n p h l) (formed F G f o) = absurd (not-both second n p (f .two .judged) l)
   cause-one _ _ (formed F G f o) (first-late m r k) = absurd (not-both first m r (f .one .judged) k)
   cause-one _ _ (formed F G f o) (second-late m r k j) = absurd (not-both second m r (f .two .judged) j)
   cause-one a b (formed F G f o) (formed H K g i) =
-      outcome-one F G a b o
-      (subst (λ (T : Table). Outcome T G b) (form-of-text-one first H F (g .one) (f .one)) (subst (λ (T : Table). Outcome H T b) (form-of-text-one second K G (g .two) (f .two)) i))
+      let one = form-of-text-one first H F (g .one) (f .one) in
+      let two = form-of-text-one second K G (g .two) (f .two) in
+      outcome-one F G a b o (subst₂ (λ (S T : Table). Outcome S T b) one two i)
 
   -- Two answers of the comparison call for one pair of texts are equal.
   pub comparison-one : (a b : Comparison) → ComparisonAnswer first second a → ComparisonAnswer first second b → a ≡ b

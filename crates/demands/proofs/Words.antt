@@ -1,4 +1,5 @@
--- Demand 2, the word: it is given exactly when the published definition gives it within the limits, and refused exactly for the listed causes. Assumes nothing.
+-- Demand 2, the word: it is given exactly when the published definition gives it within the limits, and refused exactly for the
+-- listed causes. Assumes nothing.
 use mathlib.Core.Path.{_≡_, refl, sym, _∙_, ap₂}
 use mathlib.Core.List.{List}
 use mathlib.Core.Logic.{_⊎_, inl, inr, _↔_}
@@ -20,7 +21,8 @@ use Rattle.trees.proofs.Refusals.{cause-number}
 use Rattle.promises.specs.Word.{wordOn, wordAnswer}
 use Rattle.promises.proofs.Room.{TooLong}
 use Rattle.promises.proofs.Word.{NoRule, on-given, on-refused, answer-text, answer-table, word-given, word-refused}
-use Rattle.demands.specs.Words.{Asked, WordGiven, RoomLacking, RuleLacking, ShapeWrong, WordRefused, text-wrong, shape-wrong, rule-lacking, room-lacking}
+use Rattle.demands.specs.Words.{Asked, WordGiven, RoomLacking, RuleLacking, ShapeWrong}
+use Rattle.demands.specs.Words.{WordRefused, text-wrong, shape-wrong, rule-lacking, room-lacking}
 
 -- ---- the tree that is asked for
 
@@ -70,7 +72,8 @@ module _ (text tree : List ℕ) (room : ℕ) where
       on-tree M i (inr h) =
           rule-lacking (h .number) (record { table = M; of = h .tree; asked = asked text tree M (h .tree) i (h .read); first = h .first })
 
-      on-room : (M : Table) → readTable text ≡ given M → (wordOn M tree ≡ refused n p) ⊎ TooLong room (wordOn M tree) n p → WordRefused text tree room n p
+      on-room : (M : Table) → readTable text ≡ given M → (wordOn M tree ≡ refused n p) ⊎ TooLong room (wordOn M tree) n p
+          → WordRefused text tree room n p
       on-room M i (inl j) = on-tree M i (on-refused M (read-limited text M i .made) tree n p .0 j)
       on-room M i (inr l) =
           let k = on-given M tree (l .out) .0 (l .there) in

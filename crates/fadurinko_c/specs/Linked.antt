@@ -9,7 +9,7 @@ use Rattle.words.specs.Reply.{Reply, given, refusal}
 use Rattle.machine.specs.Machine.{Table}
 use Rattle.machine.specs.Verdict.{Verdict, earliest, lateAs}
 use Rattle.promises.specs.Room.{filled}
-use Rattle.promises.specs.Word.{Letters, lettersOf}
+use Rattle.promises.specs.Word.{WordCounts, lettersOf}
 use Rattle.promises.specs.Form.{FormAnswer, formRoom}
 use Rattle.promises.specs.Comparison as paper
 use Rattle.promises.specs.Comparison.{Comparison, ComparisonAnswer}
@@ -40,7 +40,7 @@ entriesOf entries (given a) = entries a
 entriesOf entries (refusal x) = noEntries 0 x
 
 -- The entries of a word's letters, and of so many bytes of a form.
-abbrev pub lettersEntries : Letters → List ℕ
+abbrev pub lettersEntries : WordCounts → List ℕ
 lettersEntries l = eight 0 (l .length) (l .terms) 0 0
 
 abbrev pub lengthEntries : ℕ → List ℕ

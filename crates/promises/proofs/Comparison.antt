@@ -124,7 +124,8 @@ module _ (first second : List ℕ) where
       there different k = absurd (not-both second n p (k .2 .two .judged) h)
       there (refusal zero x) k = absurd (not-both second n p (k .2 .two .judged) h)
       there (refusal (suc zero) x) k = absurd (not-both first (x .number) (x .place) g k)
-      there (refusal (suc (suc zero)) x) k = ap (refusal 2) (late-injective x (noAt n p) (judgement-one second (lateAs x) (late n p) (k .1) h))
+      there (refusal (suc (suc zero)) x) k =
+          ap (refusal 2) (late-injective x (noAt n p) (judgement-one second (lateAs x) (late n p) (k .1) h))
       there (refusal (suc (suc (suc t))) x) k = absurd k
 
   -- 0 is told with 19 alone, where two forms' symbol lists part.
@@ -132,17 +133,16 @@ module _ (first second : List ℕ) where
       ↔ ((n ≡ 19) × ((F : Table) × (G : Table) × Forms first second F G × PartsAt (F .arities) (G .arities) p))
   lists-part n p = (
     λ h. (h .3, (h .0, h .1, h .2, parting-some (h .0 .arities) (h .1 .arities) p .0 (h .4))),
-    λ h.
-        (h .1 .0, h .1 .1, h .1 .2, h .0, parting-some (h .1 .0 .arities) (h .1 .1 .arities) p .1 (h .1 .3)),
+    λ h. (h .1 .0, h .1 .1, h .1 .2, h .0, parting-some (h .1 .0 .arities) (h .1 .1 .arities) p .1 (h .1 .3)),
   )
 
   -- Same is told where the two have one form, and different where they have two, with one symbol list.
   pub same-form : ComparisonAnswer first second same ↔ ((F : Table) × (G : Table) × Forms first second F G × (F ≡ G))
   same-form = (λ h. (h .0, h .0, h .1, refl), λ h. (h .1, rw (h .3) at (h .2)))
 
-  pub two-forms : ComparisonAnswer first second different ↔ ((F : Table) × (G : Table) × Forms first second F G × (F .arities ≡ G .arities) × (F ≡ G → ⊥))
+  pub two-forms : ComparisonAnswer first second different
+      ↔ ((F : Table) × (G : Table) × Forms first second F G × (F .arities ≡ G .arities) × (F ≡ G → ⊥))
   two-forms = (
     λ h. (h .0, h .1, h .2, parting-none (h .0 .arities) (h .1 .arities) .0 (h .3), h .4),
-    λ h.
-        (h .0, h .1, h .2, parting-none (h .0 .arities) (h .1 .arities) .1 (h .3), h .4),
+    λ h. (h .0, h .1, h .2, parting-none (h .0 .arities) (h .1 .arities) .1 (h .3), h .4),
   )

@@ -2,9 +2,9 @@
 use mathlib.Core.Path.{_≡_, refl, sym, subst}
 use mathlib.Core.List.{List, _++_}
 use mathlib.Core.Logic.{_⊎_, inl, inr, ⊎-elim, _↔_}
-use Prim.Native.Nat.{ℕ, _<_, _≤_}
+use Prim.Native.Nat.{ℕ, _≤_}
 use lib.ListN.{length, drop}
-use Rattle.words.specs.Reply.{given, refused}
+use Rattle.words.specs.Reply.{Reply, given, refused}
 use Rattle.machine.specs.Machine.{Table}
 use Rattle.machine.specs.Earliest.{Earliest}
 use Rattle.machine.specs.Verdict.{earliest, late}
@@ -15,7 +15,7 @@ use Rattle.text.specs.Writing.{writeTable}
 use Rattle.promises.specs.Judgement.{JudgementAnswer}
 use Rattle.promises.specs.Form.{FormText, FormAnswer, formRoom}
 use Rattle.promises.proofs.Judgement.{judged-as, judged-from}
-use Rattle.promises.proofs.Room.{into-given, into-refused}
+use Rattle.promises.proofs.Room.{TooLong, into-given, into-refused}
 
 -- The text is read as an earliest table, and out is the text of its form.
 pub record FormWritten (text out : List ℕ) : Type 0 where
@@ -45,7 +45,8 @@ form-text text out = (
 )
 
 -- A form is given exactly if the text has it and it has room.
-pub form-given : (text : List ℕ) (room : ℕ) (out : List ℕ) → FormAnswer text room (given out) ↔ (FormText text (given out) × (length out ≤ room))
+pub form-given : (text : List ℕ) (room : ℕ) (out : List ℕ)
+    → FormAnswer text room (given out) ↔ (FormText text (given out) × (length out ≤ room))
 form-given text room out = (
   λ h.
       let i = into-given room (h .0) out .0 (sym (h .2)) in
@@ -53,32 +54,23 @@ form-given text room out = (
   λ h. (given out, h .0, sym (into-given room (given out) out .1 (refl, h .1))),
 )
 
--- The form's text is longer than the room, and n is 12 with the length needed for its place.
-pub record FormTooLong (text : List ℕ) (room n p : ℕ) : Type 0 where
-  pub out : List ℕ
-  pub form : FormText text (given out)
-  pub longer : room < length out
-  pub number : n ≡ 12
-  pub place : p ≡ length out
+-- The form's text is longer than the room.
+abbrev pub FormTooLong : List ℕ → ℕ → ℕ → ℕ → Type 0
+FormTooLong text room n p = (b : Reply (List ℕ)) × FormText text b × TooLong room b n p
 
--- A form is refused exactly as the judgement refuses the text, or with 12.
+-- A form is refused exactly as the judgement refuses the text, or with 12 if its text is longer than the room.
 pub form-refused : (text : List ℕ) (room n p : ℕ) → FormAnswer text room (refused n p) ↔ (JudgementAnswer text (late n p) ⊎ FormTooLong text room n p)
 form-refused text room n p = (there, back)
   where
     there : FormAnswer text room (refused n p) → JudgementAnswer text (late n p) ⊎ FormTooLong text room n p
     there h =
-        ⊎-elim (λ i. inl (subst (FormText text) i (h .1))) (λ i.
-        inr (record { out = i .out; form = subst (FormText text) (i .there) (h .1); longer = i .longer; number = i .number; place = i .place }))
-        (into-refused room (h .0) n p .0 (sym (h .2)))
+        ⊎-elim (λ i. inl (subst (FormText text) i (h .1))) (λ i. inr (h .0, h .1, i)) (into-refused room (h .0) n p .0 (sym (h .2)))
 
     back : JudgementAnswer text (late n p) ⊎ FormTooLong text room n p → FormAnswer text room (refused n p)
     back (inl h) = (refused n p, h, refl)
-    back (inr h) = (
-      given (h .out),
-      h .form,
-      sym (into-refused room (given (h .out)) n p .1 (inr (record { out = h .out; there = refl; longer = h .longer; number = h .number; place = h .place }))),
-    )
+    back (inr h) = (h .0, h .1, sym (into-refused room (h .0) n p .1 (inr (h .2))))
 
 -- After the form call the room begins with the form's text and is else as it was; after a refusal it is as it was.
-pub form-room : (room out : List ℕ) (n p : ℕ) → (formRoom room (given out) ≡ out ++ drop (length out) room) × (formRoom room (refused n p) ≡ room)
+pub form-room : (room out : List ℕ) (n p : ℕ)
+    → (formRoom room (given out) ≡ out ++ drop (length out) room) × (formRoom room (refused n p) ≡ room)
 form-room room out n p = (refl, refl)

@@ -2,9 +2,8 @@
 use mathlib.Core.Path.{_≡_, refl, sym, ap, ap₂, _∙_}
 use mathlib.Core.List.{List}
 use mathlib.Core.Logic.{_⊎_, inl, inr, ⊎-elim, _↔_}
-use mathlib.Core.Option.{Option, none, some}
+use mathlib.Core.Option.{Option, none, some, Option·none-ne-some}
 use Prim.Native.Nat.{ℕ, suc, _≤_}
-use native.Mathlib.Omega.{arith}
 use lib.ListN.{length, take, drop}
 use Rattle.words.specs.Word.{Word, spaces, terms}
 use Rattle.words.specs.Reply.{given, refused, _then_}
@@ -24,14 +23,14 @@ use Rattle.promises.specs.Word.{wordOr, wordIn, wordOn, wordInto, wordAn
 use Rattle.promises.proofs.Room.{TooLong, into-given, into-refused, filled-given, filled-length, filled-refused}
 
 -- A tree is given a word exactly if the table has it for the tree.
-pub in-given : (M : Table) (t : Tree) (w : Word) → (wordIn M t ≡ given w) ↔ (output M t ≡ some w)
+in-given : (M : Table) (t : Tree) (w : Word) → (wordIn M t ≡ given w) ↔ (output M t ≡ some w)
 unfolding wordIn
 in-given M t w = go (output M t) _
   where
     go : (o : Option Word) (l : Option ℕ) → (wordOr o l ≡ given w) ↔ (o ≡ some w)
     go (some v) l = (λ e. (cc), λ e. (cc))
-    go none (some p) = (λ e. absurd (given-refused w _ _ (sym e)), λ e. absurd (let z : _≡_ {A = ℕ} 0 1 = cc in omega arith))
-    go none none = (λ e. absurd (given-refused w _ _ (sym e)), λ e. absurd (let z : _≡_ {A = ℕ} 0 1 = cc in omega arith))
+    go none (some p) = (λ e. absurd (given-refused w _ _ (sym e)), λ e. absurd (Option·none-ne-some w e))
+    go none none = (λ e. absurd (given-refused w _ _ (sym e)), λ e. absurd (Option·none-ne-some w e))
 
 -- A tree is read, p is its first position without a rule, and n is 9.
 pub record NoRule (M : Table) (bytes : List ℕ) (n p : ℕ) : Type 0 where
@@ -47,8 +46,9 @@ module _ (M : Table) (made : WellMade M) where
   nine t p ranked h = ap₂ wordOr (output-none M made t ranked .1 (p, h)) (lacks-first M made t (M .start) ranked p .1 h)
 
   -- A tree is refused exactly with 9, at the first position without a rule.
-  pub in-refused : (t : Tree) (n p : ℕ) → Ranked (M .arities) t → (wordIn M t ≡ refused n p) ↔ ((n ≡ 9) × FirstLacking M (M .start) t p)
-  in-refused t n p ranked = (λ e. go (output M t) refl e, λ h. nine t p ranked (h .1) ∙ ap (λ (x : ℕ). refused x p) (sym (h .0)))
+  in-refused : (t : Tree) (n p : ℕ) → Ranked (M .arities) t → (wordIn M t ≡ refused n p) ↔ ((n ≡ 9) × FirstLacking M (M .start) t p)
+  in-refused t n p ranked =
+      (λ e. go (output M t) refl e, λ h. nine t p ranked (h .1) ∙ ap (λ (x : ℕ). refused x p) (sym (h .0)))
     where
       go : (o : Option Word) → output M t ≡ o → wordIn M t ≡ refused n p → (n ≡ 9) × FirstLacking M (M .start) t p
       go (some w) i e = absurd (given-refused w n p (sym (in-given M t w .1 i) ∙ e))
@@ -94,7 +94,8 @@ unfolding wordAnswer wordInto
 answer-table text tree room M e = rw e
 
 -- A word is given exactly if the bytes have it and it has room.
-pub word-given : (M : Table) (tree : List ℕ) (room : ℕ) (w : Word) → (wordInto M tree room ≡ given w) ↔ ((wordOn M tree ≡ given w) × (length w ≤ room))
+pub word-given : (M : Table) (tree : List ℕ) (room : ℕ) (w : Word)
+    → (wordInto M tree room ≡ given w) ↔ ((wordOn M tree ≡ given w) × (length w ≤ room))
 unfolding wordInto
 word-given M tree room w = into-given room (wordOn M tree) w
 

@@ -23,6 +23,7 @@ pub data Comparison : Type 0 where
 abbrev pub refused : ℕ → ℕ → ℕ → Comparison
 refused t n p = refusal t (noAt n p)
 
+-- An index of the rests as one of the lists.
 abbrev pub later : Option ℕ → Option ℕ
 later none = none
 later (some i) = some (suc i)
@@ -47,7 +48,8 @@ pub record Forms (first second : List ℕ) (F G : Table) : Type 0 where
 -- a is the answer of the comparison call for two table texts. "Same" is given exactly when the forms agree.
 abbrev pub ComparisonAnswer : List ℕ → List ℕ → Comparison → Type 0
 ComparisonAnswer first second same = (F : Table) × Forms first second F F
-ComparisonAnswer first second different = (F : Table) × (G : Table) × Forms first second F G × (parting (F .arities) (G .arities) ≡ none) × (F ≡ G → ⊥)
+ComparisonAnswer first second different =
+    (F : Table) × (G : Table) × Forms first second F G × (parting (F .arities) (G .arities) ≡ none) × (F ≡ G → ⊥)
 ComparisonAnswer first second (refusal zero x) =
     (F : Table) × (G : Table) × Forms first second F G × (x .number ≡ 19) × (parting (F .arities) (G .arities) ≡ some (x .place))
 ComparisonAnswer first second (refusal (suc zero) x) = JudgementAnswer first (lateAs x)

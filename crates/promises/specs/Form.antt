@@ -2,10 +2,9 @@
 use mathlib.Core.Path.{_≡_}
 use mathlib.Core.List.{List}
 use Prim.Native.Nat.{ℕ}
-use lib.ListN.{length}
 use Rattle.words.specs.Reply.{Reply, given, refusal}
 use Rattle.machine.specs.Machine.{Table}
-use Rattle.machine.specs.Verdict.{Verdict, earliest, lateAs}
+use Rattle.machine.specs.Verdict.{earliest, lateAs}
 use Rattle.machine.specs.Form.{IsForm}
 use Rattle.text.specs.Reading.{readTable}
 use Rattle.text.specs.Writing.{writeTable}

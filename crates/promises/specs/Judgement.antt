@@ -7,6 +7,7 @@ use Rattle.machine.specs.Machine.{Table}
 use Rattle.machine.specs.Verdict.{Verdict, earliest, lateAs, Judged}
 use Rattle.text.specs.Reading.{readTable}
 
+-- v is the verdict on the table that was read, or the refusal of the reading.
 abbrev pub JudgedReading : Reply Table → Verdict → Type 0
 JudgedReading (given M) v = Judged M v
 JudgedReading (refusal x) v = v ≡ lateAs x

@@ -11,12 +11,13 @@ use Rattle.trees.specs.Shape.{readTree}
 use Rattle.trees.specs.Lacking.{lacks}
 use Rattle.promises.specs.Room.{into, filled}
 
--- The table's word on a tree, or 9 at the first position without a rule.
+-- A word that is there, or 9 at the first position without a rule.
 abbrev pub wordOr : Option Word → Option ℕ → Reply Word
 wordOr (some w) lacking = given w
 wordOr none (some p) = refused 9 p
 wordOr none none = refused 9 0
 
+-- The table's word on a tree, or 9.
 unfoldable pub wordIn : Table → Tree → Reply Word
 wordIn M t = wordOr (output M t) (lacks M (M .start) t 0)
 
@@ -29,11 +30,12 @@ unfoldable pub wordAnswer : List ℕ → List ℕ → ℕ → Reply Word
 wordAnswer text tree room = into room (readTable text then λ M. wordOn M tree)
 
 -- A word's answer holds its length and number of terms.
-pub record Letters : Type 0 where
+pub record WordCounts : Type 0 where
   pub length : ℕ
   pub terms : ℕ
 
-abbrev pub lettersOf : Word → Letters
+-- The length and the number of terms of a word.
+abbrev pub lettersOf : Word → WordCounts
 lettersOf w = record { length = length w; terms = terms w }
 
 -- The answer of the word call for an opened table, tree bytes and so many bytes of room.

@@ -25,8 +25,8 @@ use Rattle.end_laws.specs.Cases.{m2-earliest}
 use Rattle.promises.specs.Word.{wordIn, wordOn, wordAnswer, wordRoom}
 use Rattle.promises.specs.Judgement.{JudgementAnswer}
 use Rattle.starred.specs.Texts.{M2-earliest, M2-form}
-use Rattle.starred.specs.Cases.{form, Holds, All, others}
-use Rattle.starred.proofs.Starred.{read-judged}
+use Rattle.starred.specs.Cases.{form, CaseHolds, AllHold, others}
+use Rattle.starred.proofs.Starred.{read-judged, _also_}
 
 -- ---- the form of M2's earliest table
 
@@ -83,14 +83,22 @@ unfolding readTable readLines linesOf bytesOf digit step symbolFrame startFrame 
     judge judgeBy least known reached settle sweep visit-rows spread follow markAll marked along total
 judged-earliest = read-judged M2-earliest m2-earliest earliest refl refl
 
-four-states : Holds (form M2-earliest M2-form)
+four-states : CaseHolds (form M2-earliest M2-form)
 unfolding readTable readLines linesOf bytesOf digit step symbolFrame startFrame ruleFrame within below letters text children lines characters
     lineOf hexOf digitOf writeTable symbolLines rowLines initialFrame rowFrame childrenText
 four-states = (formed, record { table = m2-earliest; read = refl; judged = judged-earliest; form = is-form }, refl)
 
 -- Every case without a star holds.
-pub others-hold : All others
+pub others-hold : AllHold others
 unfolding wordAnswer wordRoom wordOn wordIn
     readTable readLines linesOf bytesOf digit step symbolFrame startFrame ruleFrame within below letters text children lines characters
     readTree treeAt forestAt word find lacks preorder spaces terms
-others-hold = (judged-earliest, (four-states, ((refl, refl, refl), ((refl, refl, refl), ((refl, refl), ((refl, refl, refl), ((refl, refl), tt)))))))
+others-hold =
+    judged-earliest
+    also four-states
+    also (refl, refl, refl)
+    also (refl, refl, refl)
+    also (refl, refl)
+    also (refl, refl, refl)
+    also (refl, refl)
+    also tt

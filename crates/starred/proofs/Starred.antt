@@ -1,11 +1,11 @@
 -- Every starred case of document 01 holds, by the definitions alone.
-use mathlib.Core.Path.{_≡_, refl, sym}
-use mathlib.Core.List.{List, [], _∷_}
+use mathlib.Core.Path.{_≡_, refl}
+use mathlib.Core.List.{List}
 use Prim.Native.Nat.{ℕ}
-use Rattle.words.specs.Reply.{Reply, given, refused}
+use Rattle.words.specs.Reply.{given}
 use Rattle.words.specs.Word.{spaces, terms}
 use Rattle.machine.specs.Machine.{Table, find, word}
-use Rattle.machine.specs.Verdict.{Verdict, earliest, late, Judged}
+use Rattle.machine.specs.Verdict.{Verdict, earliest, late}
 use Rattle.text.specs.Characters.{characters, lines}
 use Rattle.text.specs.Lines.{digit, bytesOf, linesOf, digitOf, hexOf, lineOf}
 use Rattle.text.specs.Fields.{within, below, letters, text, children}
@@ -24,74 +24,46 @@ use Rattle.end_laws.proofs.Companion.{judge-judged}
 use Rattle.promises.specs.Word.{wordIn, wordOn, wordAnswer, wordRoom}
 use Rattle.promises.specs.Judgement.{JudgementAnswer}
 use Rattle.starred.specs.Texts.{T, T-form, M1, M1-earliest, M2, turn}
-use Rattle.starred.specs.Cases.{Case, form, Holds, All, cases}
+use Rattle.starred.specs.Cases.{form, CaseHolds, AllHold, cases}
 
 -- A text that is read as M has the verdict that the companion computes of M.
 pub read-judged : (t : List ℕ) (M : Table) (v : Verdict) → readTable t ≡ given M → judge M ≡ v → JudgementAnswer t v
 read-judged t M v e j = rw (e, ← j) (judge-judged M (read-limited t M e .made))
 
 -- T is read as the table on the left of the listing, and the form's text is that of the table on the right.
-listed : Holds (form T T-form)
+listed : CaseHolds (form T T-form)
 unfolding readTable readLines linesOf bytesOf digit step symbolFrame startFrame ruleFrame within below letters text children lines characters
     lineOf hexOf digitOf writeTable symbolLines rowLines initialFrame rowFrame childrenText
     judge judgeBy least known reached settle sweep visit spread follow markAll marked along total
 listed = (right, record { table = left; read = refl; judged = read-judged T left earliest refl refl; form = listing }, refl)
 
+-- A case, and also the others.
+infixr 40 _also_
+abbrev pub _also_ : {A B : Type 0} → A → B → A × B
+_also_ a b = (a, b)
+
 -- Every starred case holds.
-pub starred : All cases
+pub starred : AllHold cases
 unfolding wordAnswer wordRoom wordOn wordIn
     readTable readLines linesOf bytesOf digit step symbolFrame startFrame ruleFrame within below letters text children lines characters
     readTree treeAt forestAt word find lacks preorder spaces terms
     judge judgeBy least known reached settle sweep visit spread follow markAll marked along total
-starred = (
-  listed,
-  (
-    (refl, refl, refl),
-    (
-      (refl, refl, refl),
-      (
-        (refl, refl),
-        (
-          (refl, refl),
-          (
-            (refl, refl),
-            (
-              (refl, refl),
-              (
-                (refl, refl),
-                (
-                  (refl, refl, refl),
-                  (
-                    (refl, refl, refl),
-                    (
-                      (refl, refl, refl),
-                      (
-                        read-judged M1 m1 (late 15 0) refl refl,
-                        (
-                          read-judged M1-earliest m1-earliest earliest refl refl,
-                          (
-                            (refl, refl, refl),
-                            (
-                              read-judged M2 m2 (late 18 0) refl refl,
-                              (
-                                (refl, refl, refl),
-                                (
-                                  read-judged turn turn-table earliest refl refl,
-                                  tt,
-                                ),
-                              ),
-                            ),
-                          ),
-                        ),
-                      ),
-                    ),
-                  ),
-                ),
-              ),
-            ),
-          ),
-        ),
-      ),
-    ),
-  ),
-)
+starred =
+    listed
+    also (refl, refl, refl)
+    also (refl, refl, refl)
+    also (refl, refl)
+    also (refl, refl)
+    also (refl, refl)
+    also (refl, refl)
+    also (refl, refl)
+    also (refl, refl, refl)
+    also (refl, refl, refl)
+    also (refl, refl, refl)
+    also read-judged M1 m1 (late 15 0) refl refl
+    also read-judged M1-earliest m1-earliest earliest refl refl
+    also (refl, refl, refl)
+    also read-judged M2 m2 (late 18 0) refl refl
+    also (refl, refl, refl)
+    also read-judged turn turn-table earliest refl refl
+    also tt

@@ -4,7 +4,7 @@ use mathlib.Core.List.{List, [], _∷_, _++_}
 use Prim.Native.Nat.{ℕ}
 use lib.ListN.{length, replicate}
 use Rattle.words.specs.Word.{Word}
-use Rattle.words.specs.Reply.{Reply, given, refused}
+use Rattle.words.specs.Reply.{given, refused}
 use Rattle.machine.specs.Verdict.{Verdict, earliest, late}
 use Rattle.promises.specs.Word.{wordAnswer, wordRoom, lettersOf}
 use Rattle.promises.specs.Judgement.{JudgementAnswer}
@@ -19,16 +19,21 @@ pub data Case : Type 0 where
   verdict : List ℕ → Verdict → Case
   form : List ℕ → List ℕ → Case
 
-abbrev pub Holds : Case → Type 0
-Holds (word text tree room w n room′) =
+-- What a case says of the definitions.
+abbrev pub CaseHolds : Case → Type 0
+CaseHolds (word text tree room w n room′) =
     (wordAnswer text tree (length room) ≡ given w) × (lettersOf w ≡ record { length = length w; terms = n }) × (wordRoom text tree room ≡ room′)
-Holds (no-word text tree room n p) = (wordAnswer text tree (length room) ≡ refused n p) × (wordRoom text tree room ≡ room)
-Holds (verdict text v) = JudgementAnswer text v
-Holds (form text out) = FormText text (given out)
+CaseHolds (no-word text tree room n p) = (wordAnswer text tree (length room) ≡ refused n p) × (wordRoom text tree room ≡ room)
+CaseHolds (verdict text v) = JudgementAnswer text v
+CaseHolds (form text out) = FormText text (given out)
 
 -- A room of five bytes.
 abbrev pub five : List ℕ
 five = 1 ∷ 2 ∷ 3 ∷ 4 ∷ 5 ∷ []
+
+-- The letters abcac.
+abbrev pub abcac : Word
+abcac = 0x61 ∷ 0x62 ∷ 0x63 ∷ 0x61 ∷ 0x63 ∷ []
 
 -- The cases in document 01's order, the listing first.
 abbrev pub cases : List Case
@@ -42,7 +47,7 @@ cases =
     ∷ no-word T (0x03 ∷ []) five 7 0
     ∷ no-word T (0x00 ∷ 0x01 ∷ 0x01 ∷ []) [] 12 1
     ∷ word T (0x00 ∷ 0x01 ∷ 0x01 ∷ []) (9 ∷ []) (0x2c ∷ []) 1 (0x2c ∷ [])
-    ∷ word M1 (0x00 ∷ 0x01 ∷ 0x02 ∷ 0x02 ∷ []) five (0x61 ∷ 0x62 ∷ 0x63 ∷ 0x61 ∷ 0x63 ∷ []) 1 (0x61 ∷ 0x62 ∷ 0x63 ∷ 0x61 ∷ 0x63 ∷ [])
+    ∷ word M1 (0x00 ∷ 0x01 ∷ 0x02 ∷ 0x02 ∷ []) five abcac 1 abcac
     ∷ word M1 (0x00 ∷ 0x02 ∷ 0x02 ∷ []) five (0x61 ∷ 0x63 ∷ []) 1 (0x61 ∷ 0x63 ∷ 3 ∷ 4 ∷ 5 ∷ [])
     ∷ verdict M1 (late 15 0)
     ∷ verdict M1-earliest earliest
@@ -65,6 +70,6 @@ others =
     ∷ []
 
 -- Every case of a list holds.
-abbrev pub All : List Case → Type 0
-All [] = Unit {0}
-All (c ∷ cs) = Holds c × All cs
+abbrev pub AllHold : List Case → Type 0
+AllHold [] = Unit {0}
+AllHold (c ∷ cs) = CaseHolds c × AllHold cs

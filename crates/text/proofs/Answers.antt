@@ -78,8 +78,8 @@ abbrev Refusal : Type 0
 Refusal = List String × ℕ × ℕ
 
 -- The reader answers what is stated.
-abbrev Holds : List Refusal → Type 0
-Holds cs = map (λ c. readTable (lines (c .0))) cs ≡ map (λ c. refused (c .1) (c .2)) cs
+abbrev RefusedSo : List Refusal → Type 0
+RefusedSo cs = map (λ c. readTable (lines (c .0))) cs ≡ map (λ c. refused (c .1) (c .2)) cs
 
 -- Number 1: an empty text. Number 2: an empty line, an odd number of digits, another character; it comes before the line's kind.
 abbrev bad-lines : List Refusal
@@ -162,7 +162,7 @@ abbrev bad-symbols : List Refusal
 bad-symbols = (replicate 64 "0100", 3, 320) ∷ (replicate 64 "0100" ++ "01" ∷ [], 4, 320) ∷ []
 
 -- Each of them is refused as stated.
-pub refusals : Holds bad-lines × Holds bad-kinds × Holds bad-rules × Holds bad-numbers × Holds bad-sizes × Holds bad-symbols
+pub refusals : RefusedSo bad-lines × RefusedSo bad-kinds × RefusedSo bad-rules × RefusedSo bad-numbers × RefusedSo bad-sizes × RefusedSo bad-symbols
 unfolding readTable readLines linesOf bytesOf digit step symbolFrame startFrame ruleFrame within below letters text children characters lines
 refusals = (refl, refl, refl, refl, refl, refl)
 

@@ -45,12 +45,16 @@ digit-digitOf v h = go (ltb v 10) refl
         let s : 0x61 + (v - 10) - 0x61 + 10 ≡ v = omega arith in
         ap digit (digitOf-high v l) ∙ digit-high (0x61 + (v - 10)) (omega arith) (omega arith) ∙ ap some s
 
+-- The value of a character, by the tests that it is a digit from 0 to 9, and a letter from a to f.
+abbrev valueBy : ℕ → Bool → Bool → Option ℕ
+valueBy c a b = elim a [ true ↦ some (c - 0x30) | false ↦ elim b [ true ↦ some (c - 0x61 + 10) | false ↦ none ] ]
+
 -- A digit's value is below 16, and the digit is that of its value.
 pub digit-inv : (c v : ℕ) → digit c ≡ some v → (v < 16) × (c ≡ digitOf v)
 unfolding digit
 digit-inv c v h = go (leb 0x30 c && leb c 0x39) (leb 0x61 c && leb c 0x66) refl refl h
   where
-    go : (a b : Bool) → (leb 0x30 c && leb c 0x39) ≡ a → (leb 0x61 c && leb c 0x66) ≡ b → elim a as (λ x. Option ℕ) [ true ↦ some (c - 0x30) | false ↦ elim b as (λ x. Option ℕ) [ true ↦ some (c - 0x61 + 10) | false ↦ none ] ] ≡ some v → (v < 16) × (c ≡ digitOf v)
+    go : (a b : Bool) → (leb 0x30 c && leb c 0x39) ≡ a → (leb 0x61 c && leb c 0x66) ≡ b → valueBy c a b ≡ some v → (v < 16) × (c ≡ digitOf v)
     go true b e f i =
         let s : c - 0x30 ≡ v = Option·some-injective _ _ i in
         let t = both-hold (leb 0x30 c) (leb c 0x39) e in
@@ -95,15 +99,27 @@ hex-bytes (b ∷ bs) h =
     let s : b / 16 * 16 + b % 16 ≡ b = omega arith in
     rw (digit-digitOf (b / 16) (omega (arith, h .0)), digit-digitOf (b % 16) (omega arith), hex-bytes bs (h .1), s)
 
+-- The bytes bs are joined of two digits' values and bytes.
+record Joins (a b : Option ℕ) (o : Option (List ℕ)) (bs : List ℕ) : Type 0 where
+  high : ℕ
+  low : ℕ
+  rest : List ℕ
+  first : a ≡ some high
+  second : b ≡ some low
+  behind : o ≡ some rest
+  is : bs ≡ (high * 16 + low) ∷ rest
+
 -- What joining two digits and bytes takes.
-joined-inv : (a b : Option ℕ) (o : Option (List ℕ)) (bs : List ℕ) → joined a b o ≡ some bs → (h : ℕ) × (l : ℕ) × (cs : List ℕ) × (a ≡ some h) × (b ≡ some l) × (o ≡ some cs) × (bs ≡ (h * 16 + l) ∷ cs)
+joined-inv : (a b : Option ℕ) (o : Option (List ℕ)) (bs : List ℕ) → joined a b o ≡ some bs → Joins a b o bs
 joined-inv none b o bs e = absurd (Option·none-ne-some bs e)
 joined-inv (some h) none o bs e = absurd (Option·none-ne-some bs e)
 joined-inv (some h) (some l) none bs e = absurd (Option·none-ne-some bs e)
-joined-inv (some h) (some l) (some cs) bs e = (h, l, cs, refl, refl, refl, sym (Option·some-injective _ _ e))
+joined-inv (some h) (some l) (some cs) bs e =
+    record { high = h; low = l; rest = cs; first = refl; second = refl; behind = refl; is = sym (Option·some-injective _ _ e) }
 
 -- A byte's two digits, before digits.
-hex-cons : (x y h l : ℕ) (cs ds bs : List ℕ) → (h < 16) × (x ≡ digitOf h) → (l < 16) × (y ≡ digitOf l) → cs ≡ hexOf ds → bs ≡ (h * 16 + l) ∷ ds → x ∷ y ∷ cs ≡ hexOf bs
+hex-cons : (x y h l : ℕ) (cs ds bs : List ℕ) → (h < 16) × (x ≡ digitOf h) → (l < 16) × (y ≡ digitOf l)
+    → cs ≡ hexOf ds → bs ≡ (h * 16 + l) ∷ ds → x ∷ y ∷ cs ≡ hexOf bs
 unfolding hexOf
 hex-cons x y h l cs ds bs p q e f =
     let s : (h * 16 + l) / 16 ≡ h = omega (arith, q .0) in
@@ -117,7 +133,9 @@ bytes-hex [] bs e = rw (← Option·some-injective _ _ e)
 bytes-hex (x ∷ []) bs e = absurd (Option·none-ne-some bs e)
 bytes-hex (x ∷ y ∷ cs) bs e =
     let i = joined-inv (digit x) (digit y) (bytesOf cs) bs e in
-    hex-cons x y (i .0) (i .1) cs (i .2) bs (digit-inv x (i .0) (i .3)) (digit-inv y (i .1) (i .4)) (bytes-hex cs (i .2) (i .5)) (i .6)
+    let high = digit-inv x (i .high) (i .first) in
+    let low = digit-inv y (i .low) (i .second) in
+    hex-cons x y (i .high) (i .low) cs (i .rest) bs high low (bytes-hex cs (i .rest) (i .behind)) (i .is)
 
 -- What is read is bytes.
 pub bytes-small : (cs bs : List ℕ) → bytesOf cs ≡ some bs → AtMost 255 bs
@@ -126,4 +144,6 @@ bytes-small [] bs e = rw (← Option·some-injective _ _ e) tt
 bytes-small (x ∷ []) bs e = absurd (Option·none-ne-some bs e)
 bytes-small (x ∷ y ∷ cs) bs e =
     let i = joined-inv (digit x) (digit y) (bytesOf cs) bs e in
-    rw (i .6) (omega (arith, digit-inv x (i .0) (i .3) .0, digit-inv y (i .1) (i .4) .0), bytes-small cs (i .2) (i .5))
+    let high = digit-inv x (i .high) (i .first) in
+    let low = digit-inv y (i .low) (i .second) in
+    rw (i .is) (omega (arith, high .0, low .0), bytes-small cs (i .rest) (i .behind))

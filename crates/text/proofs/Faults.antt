@@ -3,13 +3,11 @@ use mathlib.Core.Path.{_≡_, refl, _∙_}
 use mathlib.Core.Bool.{Bool, false}
 use mathlib.Core.List.{List, [], _∷_}
 use Prim.Native.Nat.{ℕ, _<_, _≤_}
-use native.Mathlib.Omega.{arith}
 use borrow.Author.Tests.{le-ltb, le-leb, lt-leb}
 use lib.Dec.{leb, ltb}
 use lib.ListN.{length, take, drop}
-use Rattle.text.specs.Limits.{lettersMost}
-use Rattle.text.specs.Fields.{Parsed, got, fault, Field, andThen, check, within, below, letters, text}
-use Rattle.text.proofs.Fields.{then-got, check-got, within-read}
+use Rattle.text.specs.Fields.{Parsed, got, fault, Field, andThen, check, within, below, letters}
+use Rattle.text.proofs.Fields.{check-got}
 
 module _ {A B : Type 0} where
   -- A reader that tells a number tells it for what comes behind it.
@@ -36,7 +34,9 @@ within-small least most b rest h = check-fault (leb least b) 4 _ rest (lt-leb le
 -- 4 if it is too large.
 pub within-large : (least most b : ℕ) (rest : List ℕ) → least ≤ b → most < b → within least most (b ∷ rest) ≡ fault 4
 unfolding within
-within-large least most b rest h k = check-got (leb least b) 4 _ rest (le-leb least b h) ∙ check-fault (leb b most) 4 _ rest (lt-leb b most k)
+within-large least most b rest h k =
+    check-got (leb least b) 4 _ rest (le-leb least b h)
+    ∙ check-fault (leb b most) 4 _ rest (lt-leb b most k)
 
 -- 5 if a state or a symbol is lacking.
 pub below-lacking : (n : ℕ) → below n [] ≡ fault 5
@@ -59,23 +59,3 @@ letters-there n bs h = rw (le-leb n (length bs) h, letters)
 pub letters-lacking : (n : ℕ) (bs : List ℕ) → length bs < n → letters n bs ≡ fault 5
 unfolding letters
 letters-lacking n bs h = rw (lt-leb n (length bs) h, letters)
-
--- A word is the n bytes behind its length n.
-pub text-there : (n : ℕ) (bs : List ℕ) → n ≤ lettersMost → n ≤ length bs → text (n ∷ bs) ≡ got (take n bs) (drop n bs)
-unfolding text
-text-there n bs h k = then-got _ letters n bs (within-read 0 lettersMost n bs (omega arith) h) ∙ letters-there n bs k
-
--- 5 if its length is lacking.
-pub text-lacking : text [] ≡ fault 5
-unfolding text
-text-lacking = then-fault _ letters 5 (within-lacking 0 lettersMost)
-
--- 4 if its length is too large.
-pub text-large : (n : ℕ) (bs : List ℕ) → lettersMost < n → text (n ∷ bs) ≡ fault 4
-unfolding text
-text-large n bs h = then-fault _ letters 4 (within-large 0 lettersMost n bs (omega arith) h)
-
--- 5 if one of its letters is lacking.
-pub text-short-of : (n : ℕ) (bs : List ℕ) → n ≤ lettersMost → length bs < n → text (n ∷ bs) ≡ fault 5
-unfolding text
-text-short-of n bs h k = then-got _ letters n bs (within-read 0 lettersMost n bs (omega arith) h) ∙ letters-lacking n bs k

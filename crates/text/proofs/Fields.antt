@@ -18,7 +18,8 @@ use Rattle.text.specs.Writing.{textOf, childrenText, AtMost, Short}
 
 module _ {A B : Type 0} where
   -- Where two readers have read, the first has read some a, and the second has read behind it.
-  pub then-inv : {P : Type 0} (p : Parsed A) (k : A → Field B) (b : B) (r : List ℕ) → andThen p k ≡ got b r → ((a : A) (s : List ℕ) → p ≡ got a s → k a s ≡ got b r → P) → P
+  pub then-inv : {P : Type 0} (p : Parsed A) (k : A → Field B) (b : B) (r : List ℕ) → andThen p k ≡ got b r
+      → ((a : A) (s : List ℕ) → p ≡ got a s → k a s ≡ got b r → P) → P
   then-inv (got a s) k b r e f = f a s refl e
   then-inv (fault n) k b r e f = absurd (let z : _≡_ {A = ℕ} 0 1 = cc in omega arith)
 
@@ -32,7 +33,8 @@ module _ {B : Type 0} where
   check-got t n k bs e = rw e
 
   -- And only a test that holds.
-  pub check-inv : (t : Bool) (n : ℕ) (k : Unit {0} → Field B) (bs : List ℕ) (b : B) (r : List ℕ) → andThen (check t n bs) k ≡ got b r → (t ≡ true) × (k tt bs ≡ got b r)
+  pub check-inv : (t : Bool) (n : ℕ) (k : Unit {0} → Field B) (bs : List ℕ) (b : B) (r : List ℕ) → andThen (check t n bs) k ≡ got b r
+      → (t ≡ true) × (k tt bs ≡ got b r)
   check-inv true n k bs b r e = (refl, e)
   check-inv false n k bs b r e = absurd (let z : _≡_ {A = ℕ} 0 1 = cc in omega arith)
 
@@ -41,10 +43,13 @@ module _ {B : Type 0} where
 -- A number in its range is read.
 pub within-read : (least most b : ℕ) (rest : List ℕ) → least ≤ b → b ≤ most → within least most (b ∷ rest) ≡ got b rest
 unfolding within
-within-read least most b rest h k = check-got (leb least b) 4 _ rest (le-leb least b h) ∙ check-got (leb b most) 4 _ rest (le-leb b most k)
+within-read least most b rest h k =
+    check-got (leb least b) 4 _ rest (le-leb least b h)
+    ∙ check-got (leb b most) 4 _ rest (le-leb b most k)
 
 -- Only a number in its range is read.
-pub within-inv : (least most : ℕ) (bs : List ℕ) (b : ℕ) (rest : List ℕ) → within least most bs ≡ got b rest → (least ≤ b) × (b ≤ most) × (bs ≡ b ∷ rest)
+pub within-inv : (least most : ℕ) (bs : List ℕ) (b : ℕ) (rest : List ℕ) → within least most bs ≡ got b rest
+    → (least ≤ b) × (b ≤ most) × (bs ≡ b ∷ rest)
 unfolding within
 within-inv least most [] b rest e = absurd (let z : _≡_ {A = ℕ} 0 1 = cc in omega arith)
 within-inv least most (c ∷ bs) b rest e =
@@ -80,7 +85,8 @@ letters-inv : (n : ℕ) (bs u rest : List ℕ) → letters n bs ≡ got u rest �
 unfolding letters
 letters-inv n bs u rest e = go (leb n (length bs)) refl e
   where
-    go : (b : Bool) → leb n (length bs) ≡ b → elim b as (λ x. Parsed Word) [ true ↦ got (take n bs) (drop n bs) | false ↦ fault 5 ] ≡ got u rest → (length u ≡ n) × (bs ≡ u ++ rest)
+    go : (b : Bool) → leb n (length bs) ≡ b
+        → elim b as (λ x. Parsed Word) [ true ↦ got (take n bs) (drop n bs) | false ↦ fault 5 ] ≡ got u rest → (length u ≡ n) × (bs ≡ u ++ rest)
     go true h i =
         let x : take n bs ≡ u = cc in
         let y : drop n bs ≡ rest = cc in
@@ -90,7 +96,9 @@ letters-inv n bs u rest e = go (leb n (length bs)) refl e
 -- A word of at most 32 letters is read.
 pub text-read : (u rest : List ℕ) → length u ≤ lettersMost → text (textOf u ++ rest) ≡ got u rest
 unfolding text
-text-read u rest h = then-got _ letters (length u) (u ++ rest) (within-read 0 lettersMost (length u) (u ++ rest) (omega arith) h) ∙ letters-read u rest
+text-read u rest h =
+    then-got _ letters (length u) (u ++ rest) (within-read 0 lettersMost (length u) (u ++ rest) (omega arith) h)
+    ∙ letters-read u rest
 
 -- Only a word of at most 32 letters is read.
 pub text-inv : (bs u rest : List ℕ) → text bs ≡ got u rest → (length u ≤ lettersMost) × (bs ≡ textOf u ++ rest)
@@ -104,12 +112,12 @@ text-inv bs u rest e =
 -- ---- bytes of what is read
 
 -- What stands in front in a list of bytes is bytes.
-pub most-left : (n : ℕ) (u v : List ℕ) → AtMost n (u ++ v) → AtMost n u
+most-left : (n : ℕ) (u v : List ℕ) → AtMost n (u ++ v) → AtMost n u
 most-left n [] v h = tt
 most-left n (x ∷ u) v h = (h .0, most-left n u v (h .1))
 
 -- What stands behind is bytes.
-pub most-right : (n : ℕ) (u v : List ℕ) → AtMost n (u ++ v) → AtMost n v
+most-right : (n : ℕ) (u v : List ℕ) → AtMost n (u ++ v) → AtMost n v
 most-right n [] v h = h
 most-right n (x ∷ u) v h = most-right n u v (h .1)
 
@@ -136,13 +144,16 @@ abbrev pub ShortWords : List Child → Type 0
 ShortWords cs = Each (λ c ds. Short (c .after)) cs
 
 -- Children with states and short words are read.
-pub children-read : (n : ℕ) (cs : List Child) (rest : List ℕ) → StatesBelow n cs → ShortWords cs → children n (length cs) (childrenText cs ++ rest) ≡ got cs rest
+pub children-read : (n : ℕ) (cs : List Child) (rest : List ℕ) → StatesBelow n cs → ShortWords cs
+    → children n (length cs) (childrenText cs ++ rest) ≡ got cs rest
 unfolding children childrenText
 children-read n [] rest h k = refl
 children-read n (c ∷ cs) rest h k =
-    let w : text (textOf (c .after) ++ childrenText cs ++ rest) ≡ got (c .after) (childrenText cs ++ rest) = rw append-assoc (text-read (c .after) (childrenText cs ++ rest) (k .0 .length)) in
+    let later = childrenText cs ++ rest in
+    let word : text (textOf (c .after) ++ childrenText cs ++ rest) ≡ got (c .after) later =
+    rw append-assoc (text-read (c .after) later (k .0 .length)) in
     then-got _ _ (c .state) _ (below-read n (c .state) _ (h .0))
-    ∙ then-got _ _ (c .after) (childrenText cs ++ rest) w
+    ∙ then-got _ _ (c .after) later word
     ∙ then-got _ _ cs rest (children-read n cs rest (h .1) (k .1))
 
 -- Children that are read are what stands there.
@@ -150,11 +161,13 @@ pub children-bytes : (n k : ℕ) (bs : List ℕ) (cs : List Child) (rest : List 
 unfolding children childrenText
 children-bytes n zero bs cs rest e = let x : [] ≡ cs = cc in let y : bs ≡ rest = cc in rw (← x) y
 children-bytes n (suc k) bs cs rest e =
-    then-inv (below n bs) _ cs rest e λ q s i e₁. then-inv (text s) _ cs rest e₁ λ u r j e₂. then-inv (children n k r) _ cs rest e₂ λ ds t l e₃.
+    then-inv (below n bs) _ cs rest e λ q s i e₁.
+    then-inv (text s) _ cs rest e₁ λ u r j e₂.
+    then-inv (children n k r) _ cs rest e₂ λ ds t l e₃.
     let a : record { state = q; after = u } ∷ ds ≡ cs = cc in
     let b : t ≡ rest = cc in
-    rw (← a, ← b)
-    (below-inv n bs q s i .1 ∙ ap (λ v. q ∷ v) (text-inv s u r j .1) ∙ ap (λ v. q ∷ length u ∷ v) (ap (λ v. u ++ v) (children-bytes n k r ds t l) ∙ sym (append-assoc u (childrenText ds) t)))
+    let behind : u ++ r ≡ u ++ childrenText ds ++ t = ap (λ v. u ++ v) (children-bytes n k r ds t l) ∙ sym (append-assoc u (childrenText ds) t) in
+    rw (← a, ← b) (below-inv n bs q s i .1 ∙ ap (λ v. q ∷ v) (text-inv s u r j .1) ∙ ap (λ v. q ∷ length u ∷ v) behind)
 
 -- The bytes bs are those of k children cs with states below n, and then the bytes rest.
 pub record ChildrenRead (n k : ℕ) (bs : List ℕ) (cs : List Child) (rest : List ℕ) : Type 0 where
@@ -165,14 +178,17 @@ pub record ChildrenRead (n k : ℕ) (bs : List ℕ) (cs : List Child) (rest : Li
   pub is : bs ≡ childrenText cs ++ rest
 
 -- Only such children are read.
-pub children-inv : (n k : ℕ) (bs : List ℕ) (cs : List Child) (rest : List ℕ) → AtMost 255 bs → children n k bs ≡ got cs rest → ChildrenRead n k bs cs rest
+pub children-inv : (n k : ℕ) (bs : List ℕ) (cs : List Child) (rest : List ℕ) → AtMost 255 bs → children n k bs ≡ got cs rest
+    → ChildrenRead n k bs cs rest
 unfolding children childrenText
 children-inv n zero bs cs rest h e =
     let x : [] ≡ cs = cc in
     let y : bs ≡ rest = cc in
     rw (← x, ← y) (record { count = refl; states = tt; short = tt; left = h; is = refl })
 children-inv n (suc k) bs cs rest h e =
-    then-inv (below n bs) _ cs rest e λ q s i e₁. then-inv (text s) _ cs rest e₁ λ u r j e₂. then-inv (children n k r) _ cs rest e₂ λ ds t l e₃.
+    then-inv (below n bs) _ cs rest e λ q s i e₁.
+    then-inv (text s) _ cs rest e₁ λ u r j e₂.
+    then-inv (children n k r) _ cs rest e₂ λ ds t l e₃.
     let x = below-inv n bs q s i in
     let hs : AtMost 255 (q ∷ s) = rw (x .1) at h in
     let y = text-short s u r (hs .1) j in

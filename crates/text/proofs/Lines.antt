@@ -2,32 +2,21 @@
 use mathlib.Core.Path.{_≡_, refl, sym, ap, _∙_}
 use mathlib.Core.Bool.{Bool, true, false}
 use mathlib.Core.List.{List, [], _∷_, _++_, append-assoc}
-use Prim.Native.Nat.{ℕ, zero, suc, _+_, _*_, _/_, _%_, _<_}
+use Prim.Native.Nat.{ℕ, _+_, _*_, _/_, _%_}
 use native.Mathlib.Omega.{arith}
 use borrow.Author.Tests.{eqb-true, eqb-false, ne-eqb}
 use lib.Dec.{eqb}
-use lib.ListN.{length, getD, length-append}
+use lib.ListN.{length, length-append}
 use Rattle.text.specs.Lines.{Lines, behind, line, push, linesOf, hexOf, lineOf}
 use Rattle.text.proofs.Digits.{digitOf-feed, length-hex}
 
 -- No byte of the list closes a line.
-abbrev pub NoFeed : List ℕ → Type 0
-NoFeed [] = Unit {0}
-NoFeed (c ∷ cs) = (c ≡ 0x0a → ⊥) × NoFeed cs
-
--- No place of the list holds that byte: then no byte of it does.
-pub places-no-feed : (u : List ℕ) → ((i : ℕ) → i < length u → getD u i 0 ≡ 0x0a → ⊥) → NoFeed u
-places-no-feed [] h = tt
-places-no-feed (c ∷ u) h = (h 0 (omega arith), places-no-feed u (λ i l. h (suc i) (omega arith)))
-
--- And the other way.
-pub no-feed-places : (u : List ℕ) → NoFeed u → (i : ℕ) → i < length u → getD u i 0 ≡ 0x0a → ⊥
-no-feed-places [] n i l = absurd (omega arith)
-no-feed-places (c ∷ u) n zero l = n .0
-no-feed-places (c ∷ u) n (suc i) l = no-feed-places u (n .1) i (omega arith)
+abbrev pub WithoutFeed : List ℕ → Type 0
+WithoutFeed [] = Unit {0}
+WithoutFeed (c ∷ cs) = (c ≡ 0x0a → ⊥) × WithoutFeed cs
 
 -- Hexadecimal digits close no line.
-pub hex-no-feed : (bs : List ℕ) → NoFeed (hexOf bs)
+pub hex-no-feed : (bs : List ℕ) → WithoutFeed (hexOf bs)
 unfolding hexOf
 hex-no-feed [] = tt
 hex-no-feed (b ∷ bs) = (digitOf-feed (b / 16), (digitOf-feed (b % 16), hex-no-feed bs))
@@ -43,16 +32,10 @@ unfolding linesOf
 lines-push c cs h = rw (ne-eqb c 0x0a h, linesOf)
 
 -- What stands before a first 0a is the first line.
-pub lines-line : (u t : List ℕ) → NoFeed u → linesOf (u ++ 0x0a ∷ t) ≡ line u (linesOf t)
+pub lines-line : (u t : List ℕ) → WithoutFeed u → linesOf (u ++ 0x0a ∷ t) ≡ line u (linesOf t)
 unfolding linesOf
 lines-line [] t n = refl
 lines-line (c ∷ u) t n = rw (lines-push c (u ++ 0x0a ∷ t) (n .0), lines-line u t (n .1))
-
--- What has no 0a is no line.
-pub lines-behind : (u : List ℕ) → NoFeed u → linesOf u ≡ behind u
-unfolding linesOf
-lines-behind [] n = refl
-lines-behind (c ∷ u) n = rw (lines-push c u (n .0), lines-behind u (n .1))
 
 -- A written frame is the first line.
 pub lines-frame : (bs t : List ℕ) → linesOf (lineOf bs ++ t) ≡ line (hexOf bs) (linesOf t)
@@ -73,7 +56,7 @@ pub record FirstLine (t l : List ℕ) (ls : Lines) : Type 0 where
   pub rest : List ℕ
   pub is : t ≡ l ++ 0x0a ∷ rest
   pub more : linesOf rest ≡ ls
-  pub line : NoFeed l
+  pub line : WithoutFeed l
 
 -- One byte more in front of a first line.
 first-cons : (c : ℕ) (t m l : List ℕ) (ls : Lines) → (c ≡ 0x0a → ⊥) → l ≡ c ∷ m → FirstLine t m ls → FirstLine (c ∷ t) l ls
@@ -86,7 +69,8 @@ unfolding linesOf
 line-inv [] l ls e = absurd (let z : _≡_ {A = ℕ} 0 1 = cc in omega arith)
 line-inv (c ∷ t) l ls e = go (eqb c 0x0a) refl (line-inv t) e
   where
-    go : (b : Bool) → eqb c 0x0a ≡ b → ((m : List ℕ) (ms : Lines) → linesOf t ≡ line m ms → FirstLine t m ms) → elim b as (λ x. Lines) [ true ↦ line [] (linesOf t) | false ↦ push c (linesOf t) ] ≡ line l ls → FirstLine (c ∷ t) l ls
+    go : (b : Bool) → eqb c 0x0a ≡ b → ((m : List ℕ) (ms : Lines) → linesOf t ≡ line m ms → FirstLine t m ms)
+        → elim b as (λ x. Lines) [ true ↦ line [] (linesOf t) | false ↦ push c (linesOf t) ] ≡ line l ls → FirstLine (c ∷ t) l ls
     go true h ih i =
         let a : l ≡ [] = cc in
         record { rest = t; is = rw (a, eqb-true c 0x0a h); more = cc; line = rw a tt }
@@ -95,12 +79,13 @@ line-inv (c ∷ t) l ls e = go (eqb c 0x0a) refl (line-inv t) e
         first-cons c t (p .0) l ls (eqb-false c 0x0a h) (p .2) (ih (p .0) ls (p .1))
 
 -- A text with no line is what stands behind the last.
-pub behind-inv : (t l : List ℕ) → linesOf t ≡ behind l → (t ≡ l) × NoFeed l
+pub behind-inv : (t l : List ℕ) → linesOf t ≡ behind l → (t ≡ l) × WithoutFeed l
 unfolding linesOf
 behind-inv [] l e = let a : l ≡ [] = cc in (sym a, rw a tt)
 behind-inv (c ∷ t) l e = go (eqb c 0x0a) refl (behind-inv t) e
   where
-    go : (b : Bool) → eqb c 0x0a ≡ b → ((m : List ℕ) → linesOf t ≡ behind m → (t ≡ m) × NoFeed m) → elim b as (λ x. Lines) [ true ↦ line [] (linesOf t) | false ↦ push c (linesOf t) ] ≡ behind l → (c ∷ t ≡ l) × NoFeed l
+    go : (b : Bool) → eqb c 0x0a ≡ b → ((m : List ℕ) → linesOf t ≡ behind m → (t ≡ m) × WithoutFeed m)
+        → elim b as (λ x. Lines) [ true ↦ line [] (linesOf t) | false ↦ push c (linesOf t) ] ≡ behind l → (c ∷ t ≡ l) × WithoutFeed l
     go true h ih i = absurd (let z : _≡_ {A = ℕ} 0 1 = cc in omega arith)
     go false h ih i =
         let p = push-behind c (linesOf t) l i in

@@ -19,7 +19,8 @@ or-right false b e = e
 -- The test between two rows holds if the first stands before the second.
 before-behind : (r s : Row) → Before r s → behindRow r (s .state) (s .symbol) ≡ true
 before-behind r s (inl h) = or-left (ltb (r .state) (s .state)) _ (lt-ltb (r .state) (s .state) h)
-before-behind r s (inr h) = or-right (ltb (r .state) (s .state)) _ (rw (eq-eqb (r .state) (s .state) (h .0), lt-ltb (r .symbol) (s .symbol) (h .1)))
+before-behind r s (inr h) =
+    or-right (ltb (r .state) (s .state)) _ (rw (eq-eqb (r .state) (s .state) (h .0), lt-ltb (r .symbol) (s .symbol) (h .1)))
 
 -- And only then.
 behind-before : (r s : Row) → behindRow r (s .state) (s .symbol) ≡ true → Before r s

@@ -15,10 +15,6 @@ use Rattle.text.proofs.Forth.{read-write}
 pub reads : (t : List ℕ) (M : Table) → (readTable t ≡ given M) ↔ ((t ≡ writeTable M) × Limited M)
 reads t M = (λ e. (write-read t M e, read-limited t M e), λ h. ap readTable (h .0) ∙ read-write M (h .1))
 
--- Texts that are read as one table are one text.
-pub read-injective : (t t′ : List ℕ) (M : Table) → readTable t ≡ given M → readTable t′ ≡ given M → t ≡ t′
-read-injective t t′ M e f = write-read t M e ∙ sym (write-read t′ M f)
-
 -- Tables within the limits that have one text are one table.
 pub write-injective : (M N : Table) → Limited M → Limited N → writeTable M ≡ writeTable N → M ≡ N
 write-injective M N h k e = given-injective M N (sym (read-write M h) ∙ ap readTable e ∙ read-write N k)

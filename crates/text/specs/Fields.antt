@@ -17,6 +17,7 @@ pub data Parsed (A : Type 0) : Type 0 where
 abbrev pub Field : Type 0 → Type 0
 Field A = List ℕ → Parsed A
 
+-- What was read, and then what is read behind it; a number of no stays.
 abbrev pub andThen : {A B : Type 0} → Parsed A → (A → Field B) → Parsed B
 andThen (got a bs) k = k a bs
 andThen (fault n) k = fault n

@@ -1,10 +1,10 @@
 -- Frames, told apart by their first byte: what a frame makes of the table read so far. Definitions only.
 use mathlib.Core.Bool.{Bool, true, false, _&&_, _||_}
 use mathlib.Core.List.{List, [], _∷_, _++_}
-use Prim.Native.Nat.{ℕ, zero, suc}
+use Prim.Native.Nat.{ℕ}
 use lib.Dec.{eqb, ltb}
 use lib.ListN.{length, getD}
-use Rattle.machine.specs.Machine.{Child, Rule, Row, Table}
+use Rattle.machine.specs.Machine.{Row, Table}
 use Rattle.text.specs.Limits.{symbolsMost, arityMost, statesMost, rowsMost}
 use Rattle.text.specs.Fields.{Parsed, got, fault, Field, _>>=_, andThen, pure, check, within, below, text, children}
 
@@ -25,10 +25,11 @@ whole (got s []) = next s
 whole (got s (b ∷ bs)) = wrong 5
 whole (fault n) = wrong n
 
--- Row r rises over the rows so far: it stands behind the last of them, by state and then symbol.
+-- State q and symbol f stand behind row r: by state and then symbol.
 abbrev pub behindRow : Row → ℕ → ℕ → Bool
 behindRow r q f = ltb (r .state) q || (eqb (r .state) q && ltb (r .symbol) f)
 
+-- State q and symbol f rise over the rows so far: they stand behind the last of them.
 abbrev pub rises : List Row → ℕ → ℕ → Bool
 rises [] q f = true
 rises (r ∷ []) q f = behindRow r q f

@@ -1,5 +1,5 @@
 -- Lines of lowercase hexadecimal, each closed by byte 0a. Definitions only.
-use mathlib.Core.Bool.{Bool, true, false, _&&_}
+use mathlib.Core.Bool.{true, false, _&&_}
 use mathlib.Core.List.{List, [], _∷_, _++_}
 use mathlib.Core.Option.{Option, none, some}
 use Prim.Native.Nat.{ℕ, _+_, _-_, _*_, _/_, _%_}
@@ -32,10 +32,12 @@ pub data Lines : Type 0 where
   behind : List ℕ → Lines
   line : List ℕ → Lines → Lines
 
+-- A character in front of the first line.
 abbrev pub push : ℕ → Lines → Lines
 push c (behind l) = behind (c ∷ l)
 push c (line l ls) = line (c ∷ l) ls
 
+-- The lines of a text.
 unfoldable pub linesOf : List ℕ → Lines
 linesOf [] = behind []
 linesOf (c ∷ cs) = elim (eqb c 0x0a) [ true ↦ line [] (linesOf cs) | false ↦ push c (linesOf cs) ]

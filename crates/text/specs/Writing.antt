@@ -1,10 +1,9 @@
 -- Writing a table, and the limits within which a table has a text. Definitions only.
-use mathlib.Core.Path.{_≡_}
 use mathlib.Core.List.{List, [], _∷_, _++_}
-use Prim.Native.Nat.{ℕ, _<_, _≤_}
+use Prim.Native.Nat.{ℕ, _≤_}
 use lib.ListN.{length}
 use Rattle.words.specs.Word.{Word}
-use Rattle.machine.specs.Machine.{Child, Rule, Row, Table, Each, Every, WellMade}
+use Rattle.machine.specs.Machine.{Child, Row, Table, Each, Every, WellMade}
 use Rattle.text.specs.Limits.{textMost, symbolsMost, arityMost, statesMost, lettersMost, rowsMost}
 use Rattle.text.specs.Lines.{lineOf}
 

@@ -30,7 +30,8 @@ module _ (M : Table) where
     stands-symbol (below g ts r i e l h j) = let k = stands-in-symbol h in rw (e, j) (k .0, omega arith)
 
     -- The same of trees one after the other.
-    stands-in-symbol : {s f p : ℕ} {cs : List Child} {ts : Forest} → StandsIn M s f cs ts p → (getD (preorders ts) p 0 ≡ f) × (p < length (preorders ts))
+    stands-in-symbol : {s f p : ℕ} {cs : List Child} {ts : Forest} → StandsIn M s f cs ts p
+        → (getD (preorders ts) p 0 ≡ f) × (p < length (preorders ts))
     stands-in-symbol {p = p} (first c more t others e i h) =
         let k = stands-symbol h in
         rw i (List·getD-append (preorder t) (preorders others) 0 p (k .1) ∙ k .0, omega (arith, length-append (preorder t) (preorders others), k .1))
@@ -39,7 +40,8 @@ module _ (M : Table) where
         rw (i, l) (getD-append-add (preorder t) (preorders others) j 0 ∙ k .0, omega (arith, length-append (preorder t) (preorders others), k .1))
 
   -- A position said in other words.
-  stands-in-as : {s f p p′ : ℕ} {cs cs′ : List Child} {ts ts′ : Forest} → cs ≡ cs′ → ts ≡ ts′ → p ≡ p′ → StandsIn M s f cs ts p → StandsIn M s f cs′ ts′ p′
+  stands-in-as : {s f p p′ : ℕ} {cs cs′ : List Child} {ts ts′ : Forest} → cs ≡ cs′ → ts ≡ ts′ → p ≡ p′
+      → StandsIn M s f cs ts p → StandsIn M s f cs′ ts′ p′
   stands-in-as e i j h = rw (← e, ← i, ← j) h
 
   mutual
@@ -56,7 +58,8 @@ module _ (M : Table) where
         let v : k′ ≡ k = omega arith in
         stands-in-one h (stands-in-as (ap (λ (a : Rule). a .rest) w) y v h′)
 
-    stands-in-one : {s f s′ f′ p : ℕ} {cs : List Child} {ts : Forest} → StandsIn M s f cs ts p → StandsIn M s′ f′ cs ts p → (s ≡ s′) × (f ≡ f′)
+    stands-in-one : {s f s′ f′ p : ℕ} {cs : List Child} {ts : Forest} → StandsIn M s f cs ts p → StandsIn M s′ f′ cs ts p
+        → (s ≡ s′) × (f ≡ f′)
     stands-in-one {s′ = s′} {f′ = f′} {p = p} (first c more t others e i h) (first c′ more′ t′ others′ e′ i′ h′) =
         let x : c′ ≡ c = cc in
         let y : t′ ≡ t = cc in
@@ -75,7 +78,7 @@ module _ (M : Table) where
         stands-in-one h (stands-in-as x z v h′)
 
   -- No position has a rule and lacks it.
-  pub not-both : {q p : ℕ} {t : Tree} → Ruled M (λ s f. Stands M s f q t p) → Unruled M (λ s f. Stands M s f q t p) → ⊥
+  not-both : {q p : ℕ} {t : Tree} → Ruled M (λ s f. Stands M s f q t p) → Unruled M (λ s f. Stands M s f q t p) → ⊥
   not-both a b =
       let e = stands-one (a .stands) (b .stands) in
       let f = a .found in
@@ -110,9 +113,11 @@ module _ (M : Table) where
   unruled-in : {at larger : ℕ → ℕ → Type 0} → ((s f : ℕ) → at s f → larger s f) → Unruled M at → Unruled M larger
   unruled-in h a = record { state = a .state; symbol = a .symbol; stands = h _ _ (a .stands); lacking = a .lacking }
 
-  module _ (one two both : ℕ → ℕ → ℕ → Type 0) (n : ℕ) (left : (i s f : ℕ) → one i s f → both i s f) (right : (i s f : ℕ) → two i s f → both (n + i) s f) where
+  module _ (one two both : ℕ → ℕ → ℕ → Type 0) (n : ℕ)
+      (left : (i s f : ℕ) → one i s f → both i s f) (right : (i s f : ℕ) → two i s f → both (n + i) s f) where
     -- Positions before i of two things in turn have rules if those of the first do, and those of the second that stand before i.
-    ruled-join : (i : ℕ) → ((j : ℕ) → j < n → Ruled M (one j)) → ((j : ℕ) → n + j < i → Ruled M (two j)) → (j : ℕ) → j < i → Ruled M (both j)
+    ruled-join : (i : ℕ) → ((j : ℕ) → j < n → Ruled M (one j)) → ((j : ℕ) → n + j < i → Ruled M (two j))
+        → (j : ℕ) → j < i → Ruled M (both j)
     ruled-join i h k j l = go (ltb j n) refl
       where
         go : (b : Bool) → ltb j n ≡ b → Ruled M (both j)
@@ -125,7 +130,8 @@ module _ (M : Table) where
     -- Going over the first and then the second finds the first of both.
     scan-join : (o o′ : Option ℕ) (m b : ℕ) → Scan one n b o → Scan two m (b + n) o′ → Scan both (n + m) b (orElse o o′)
     scan-join none none m b h k = ruled-join (n + m) h (λ j l. k j (omega arith))
-    scan-join none (some p) m b h k = (n + k .0, omega (arith, k .1), unruled-in (right (k .0)) (k .2), ruled-join (n + k .0) h (λ j l. k .3 j (omega arith)))
+    scan-join none (some p) m b h k =
+        (n + k .0, omega (arith, k .1), unruled-in (right (k .0)) (k .2), ruled-join (n + k .0) h (λ j l. k .3 j (omega arith)))
     scan-join (some p) o′ m b h k = (h .0, h .1, unruled-in (left (h .0)) (h .2), λ j l. ruled-in (left j) (h .3 j l))
 
   module _ (q g : ℕ) (ts : Forest) (r : Rule) (e : find (M .rows) q g ≡ some r) where
@@ -136,10 +142,12 @@ module _ (M : Table) where
     ruled-below i h (suc j) l = ruled-in (λ s f k. below g ts r j refl e k refl) (h j l)
 
     -- Going over the root, which has a rule, and the trees below it.
-    scan-below : (o : Option ℕ) (n b : ℕ) → Scan (λ i s f. StandsIn M s f (r .rest) ts i) n (suc b) o → Scan (λ i s f. Stands M s f q (node g ts) i) (suc n) b o
+    scan-below : (o : Option ℕ) (n b : ℕ) → Scan (λ i s f. StandsIn M s f (r .rest) ts i) n (suc b) o
+        → Scan (λ i s f. Stands M s f q (node g ts) i) (suc n) b o
     scan-below none n b h = ruled-below (suc n) (λ j l. h j (omega arith))
     scan-below (some p) n b h =
-        (suc (h .0), omega (arith, h .1), unruled-in (λ s f k. below g ts r _ refl e k refl) (h .2), ruled-below (suc (h .0)) (λ j l. h .3 j (omega arith)))
+        let lacking = unruled-in (λ s f k. below g ts r _ refl e k refl) (h .2) in
+        (suc (h .0), omega (arith, h .1), lacking, ruled-below (suc (h .0)) (λ j l. h .3 j (omega arith)))
 
   -- Going over a tree whose root may lack a rule.
   scan-root : (q g : ℕ) (ts : Forest) (o : Option Rule) (n b : ℕ) (rest : List Child → Option ℕ) → find (M .rows) q g ≡ o
@@ -150,8 +158,8 @@ module _ (M : Table) where
   scan-root q g ts (some r) n b rest e h = scan-below q g ts r e (rest (r .rest)) n b (h r refl)
 
   -- What going over a whole tree from place 0 on finds.
-  abbrev Scanned : Tree → ℕ → Option ℕ → Type 0
-  Scanned t q o = Scan (λ i s f. Stands M s f q t i) (length (preorder t)) 0 o
+  abbrev ScannedTree : Tree → ℕ → Option ℕ → Type 0
+  ScannedTree t q o = Scan (λ i s f. Stands M s f q t i) (length (preorder t)) 0 o
 
   module _ (made : WellMade M) where
     mutual
@@ -177,19 +185,21 @@ module _ (M : Table) where
     module _ (t : Tree) (q : ℕ) (ranked : Ranked (M .arities) t) where
       -- The place that `lacks` finds is the first position without a rule, and that position is found.
       pub lacks-first : (p : ℕ) → (lacks M q t 0 ≡ some p) ↔ FirstLacking M q t p
-      lacks-first p = (λ e. found p (subst (Scanned t q) e (tree-scan t q 0 ranked)), λ h. back h (lacks M q t 0) refl (tree-scan t q 0 ranked))
+      lacks-first p =
+          (λ e. found p (subst (ScannedTree t q) e (tree-scan t q 0 ranked)), λ h. back h (lacks M q t 0) refl (tree-scan t q 0 ranked))
         where
-          found : (p′ : ℕ) → Scanned t q (some p′) → FirstLacking M q t p′
+          found : (p′ : ℕ) → ScannedTree t q (some p′) → FirstLacking M q t p′
           found p′ h = let e : h .0 ≡ p′ = omega (arith, h .1) in subst (FirstLacking M q t) e (record { there = h .2; before = h .3 })
 
-          back : FirstLacking M q t p → (o : Option ℕ) → lacks M q t 0 ≡ o → Scanned t q o → lacks M q t 0 ≡ some p
+          back : FirstLacking M q t p → (o : Option ℕ) → lacks M q t 0 ≡ o → ScannedTree t q o → lacks M q t 0 ≡ some p
           back h none e k = absurd (not-both (k p (stands-symbol (h .there .stands) .1)) (h .there))
           back h (some p′) e k = e ∙ ap (λ (a : ℕ). some a) (first-one (found p′ k) h)
 
       -- `lacks` finds nothing exactly if every position of the tree has a rule.
       pub lacks-nowhere : (lacks M q t 0 ≡ none) ↔ ((i : ℕ) → i < length (preorder t) → Ruled M (λ s f. Stands M s f q t i))
-      lacks-nowhere = (λ e. subst (Scanned t q) e (tree-scan t q 0 ranked), λ h. back h (lacks M q t 0) refl)
+      lacks-nowhere = (λ e. subst (ScannedTree t q) e (tree-scan t q 0 ranked), λ h. back h (lacks M q t 0) refl)
         where
-          back : ((i : ℕ) → i < length (preorder t) → Ruled M (λ s f. Stands M s f q t i)) → (o : Option ℕ) → lacks M q t 0 ≡ o → lacks M q t 0 ≡ none
+          back : ((i : ℕ) → i < length (preorder t) → Ruled M (λ s f. Stands M s f q t i))
+              → (o : Option ℕ) → lacks M q t 0 ≡ o → lacks M q t 0 ≡ none
           back h none e = e
           back h (some p) e = let k = lacks-first p .0 e in absurd (not-both (h p (stands-symbol (k .there .stands) .1)) (k .there))

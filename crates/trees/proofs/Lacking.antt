@@ -41,7 +41,8 @@ mutual
   unfolding word words lacks lackss
 
   tree-silent : (t : Tree) (M : Table) (q p : ℕ) → Silent (lacks M q t p) (word M q t)
-  tree-silent (node f ts) M q p = silent-rule (find (M .rows) q f) p (λ cs. words M ts cs) (λ cs. lackss M ts cs (suc p)) (λ cs. forest-silent ts M cs (suc p))
+  tree-silent (node f ts) M q p =
+      silent-rule (find (M .rows) q f) p (λ cs. words M ts cs) (λ cs. lackss M ts cs (suc p)) (λ cs. forest-silent ts M cs (suc p))
 
   forest-silent : (ts : Forest) (M : Table) (cs : List Child) (p : ℕ) → Silent (lackss M ts cs p) (words M ts cs)
   forest-silent ∅ M cs p = tt
@@ -82,7 +83,8 @@ module _ (M : Table) (made : WellMade M) where
         speaks-rule (find (M .rows) q f) p (λ cs. words M ts cs) (λ cs. lackss M ts cs (suc p))
         (λ r e. forest-speaks ts (r .rest) (suc p) (h .1 ∙ sym (find-fits M made q f r e .arity)) (h .2))
 
-    forest-speaks : (ts : Forest) (cs : List Child) (p : ℕ) → count ts ≡ length cs → Rankeds (M .arities) ts → Speaks (lackss M ts cs p) (words M ts cs)
+    forest-speaks : (ts : Forest) (cs : List Child) (p : ℕ) → count ts ≡ length cs → Rankeds (M .arities) ts
+        → Speaks (lackss M ts cs p) (words M ts cs)
     forest-speaks ∅ [] p k h = ([], refl)
     forest-speaks ∅ (c ∷ cs) p k h = absurd (omega arith)
     forest-speaks (t ▸ ts) [] p k h = absurd (omega arith)
@@ -91,15 +93,17 @@ module _ (M : Table) (made : WellMade M) where
         (tree-speaks t (c .state) p (h .0)) (forest-speaks ts cs (p + length (preorder t)) (omega arith) (h .1))
 
 -- Where a position lacks its rule, there is no word.
-pub lacks-none : (M : Table) (t : Tree) (q p p′ : ℕ) → lacks M q t p ≡ some p′ → word M q t ≡ none
+lacks-none : (M : Table) (t : Tree) (q p p′ : ℕ) → lacks M q t p ≡ some p′ → word M q t ≡ none
 lacks-none M t q p p′ e = subst (λ (o : Option ℕ). Silent o (word M q t)) e (tree-silent t M q p)
 
 -- Where no position of a ranked tree lacks its rule, there is a word.
-pub lacks-word : (M : Table) → WellMade M → (t : Tree) (q p : ℕ) → Ranked (M .arities) t → lacks M q t p ≡ none → (w : Word) × (word M q t ≡ some w)
+lacks-word : (M : Table) → WellMade M → (t : Tree) (q p : ℕ) → Ranked (M .arities) t → lacks M q t p ≡ none
+    → (w : Word) × (word M q t ≡ some w)
 lacks-word M made t q p h e = subst (λ (o : Option ℕ). Speaks o (word M q t)) e (tree-speaks M made t q p h)
 
 -- A ranked tree has no word exactly if some position lacks its rule.
-pub word-none : (M : Table) → WellMade M → (t : Tree) (q p : ℕ) → Ranked (M .arities) t → (word M q t ≡ none) ↔ ((p′ : ℕ) × (lacks M q t p ≡ some p′))
+pub word-none : (M : Table) → WellMade M → (t : Tree) (q p : ℕ) → Ranked (M .arities) t
+    → (word M q t ≡ none) ↔ ((p′ : ℕ) × (lacks M q t p ≡ some p′))
 word-none M made t q p h = (λ e. go (lacks M q t p) refl e, λ e. lacks-none M t q p (e .0) (e .1))
   where
     go : (o : Option ℕ) → lacks M q t p ≡ o → word M q t ≡ none → (p′ : ℕ) × (lacks M q t p ≡ some p′)
@@ -107,7 +111,8 @@ word-none M made t q p h = (λ e. go (lacks M q t p) refl e, λ e. lacks-none M 
     go (some p′) i e = (p′, i)
 
 -- A ranked tree has a word exactly if no position lacks its rule.
-pub word-some : (M : Table) → WellMade M → (t : Tree) (q p : ℕ) → Ranked (M .arities) t → ((w : Word) × (word M q t ≡ some w)) ↔ (lacks M q t p ≡ none)
+pub word-some : (M : Table) → WellMade M → (t : Tree) (q p : ℕ) → Ranked (M .arities) t
+    → ((w : Word) × (word M q t ≡ some w)) ↔ (lacks M q t p ≡ none)
 word-some M made t q p h = (λ e. go (lacks M q t p) refl (e .0) (e .1), λ e. lacks-word M made t q p h e)
   where
     go : (o : Option ℕ) → lacks M q t p ≡ o → (w : Word) → word M q t ≡ some w → lacks M q t p ≡ none

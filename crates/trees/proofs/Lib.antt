@@ -1,4 +1,4 @@
--- Laws of tree bytes: a preorder is read back in one way; what is read, and what is refused, and why; where a rule is lacking.
+-- Laws of tree bytes: what is read, and what is refused, and why; where a rule is lacking.
 pub mod Preorder
 pub mod Levels
 pub mod Shape
@@ -8,5 +8,4 @@ pub mod Stopped
 pub mod Refusals
 pub mod First
 pub mod Lacking
-pub mod Places
 pub mod Output

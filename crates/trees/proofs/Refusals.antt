@@ -36,7 +36,8 @@ seam bs u cs f q e j =
     }
 
 -- A tree that stops is a cause.
-stops-cause : (ar bs : List ℕ) (x q : ℕ) → Sized bs → (m : ℕ) (u rest : List ℕ) → Begun ar m depthMost u → bs ≡ u ++ rest → q ≡ length u → Why ar m rest x → Cause ar bs x q
+stops-cause : (ar bs : List ℕ) (x q : ℕ) → Sized bs → (m : ℕ) (u rest : List ℕ) → Begun ar m depthMost u
+    → bs ≡ u ++ rest → q ≡ length u → Why ar m rest x → Cause ar bs x q
 stops-cause ar bs x q s m u rest b e j (ended i k) =
     let z : u ≡ bs = sym (append-nil u) ∙ ap (λ (w : List ℕ). u ++ w) (sym k) ∙ sym e in
     early i s (j ∙ ap length z) m (subst (Begun ar m depthMost) z b)
@@ -62,11 +63,12 @@ alone-cause ar bs x q s r a e =
 pub refused-cause : (ar bs : List ℕ) (x q : ℕ) → readTree ar bs ≡ refused x q → Cause ar bs x q
 unfolding readTree
 refused-cause ar bs x q e =
-    ⊎-elim (λ i. size (i .1) (i .2) (size-wrong bs (i .0)))
-    (λ i. ⊎-elim (λ j.
+    ⊎-elim (λ i. size (i .1) (i .2) (size-wrong bs (i .0))) (λ i.
+    let sized = size-right bs (i .0) in
+    ⊎-elim (λ j.
     let s = tree-stops depthMost ar 0 bs x q j in
-    stops-cause ar bs x q (size-right bs (i .0)) (s .m) (s .u) (s .rest) (s .begun) (s .is) (omega (arith, s .place)) (s .why))
-    (λ j. alone-cause ar bs x q (size-right bs (i .0)) (j .0) (tree-sound depthMost ar 0 bs (j .0) (j .1)) (j .2))
+    stops-cause ar bs x q sized (s .m) (s .u) (s .rest) (s .begun) (s .is) (omega (arith, s .place)) (s .why))
+    (λ j. alone-cause ar bs x q sized (j .0) (tree-sound depthMost ar 0 bs (j .0) (j .1)) (j .2))
     (then-refused (treeAt depthMost ar 0 bs) alone x q (i .1)))
     (refuse-refused (wrongSize bs) _ _ (treeAt depthMost ar 0 bs then alone) x q e)
 
@@ -76,20 +78,25 @@ unfolding readTree
 stops-refused ar bs x q s t = rw (right-size bs s, stops-tree depthMost ar 0 bs x q t)
 
 -- Bytes whose first q begin a tree, and whose others are no tree, stop at q.
-stops-within : (ar bs : List ℕ) (x q m : ℕ) → q ≤ length bs → Begun ar m depthMost (take q bs) → Why ar m (drop q bs) x → Stops ar depthMost 0 bs x q
+stops-within : (ar bs : List ℕ) (x q m : ℕ) → q ≤ length bs → Begun ar m depthMost (take q bs) → Why ar m (drop q bs) x
+    → Stops ar depthMost 0 bs x q
 stops-within ar bs x q m l b w =
-    record { m = m; u = take q bs; rest = drop q bs; begun = b; is = sym (take-append-drop q bs); place = omega (arith, length-take-le q bs l); why = w }
+    let place : q ≡ 0 + length (take q bs) = omega (arith, length-take-le q bs l) in
+    record { m = m; u = take q bs; rest = drop q bs; begun = b; is = sym (take-append-drop q bs); place = place; why = w }
 
 -- A cause is refused.
 pub cause-refused : (ar bs : List ℕ) (x q : ℕ) → Cause ar bs x q → readTree ar bs ≡ refused x q
 unfolding readTree
 cause-refused ar bs x q (size i j k) = rw (i, j, wrong-size bs k)
 cause-refused ar bs x q (unknown i s l h m b) =
-    stops-refused ar bs x q s (stops-within ar bs x q m (omega arith) b (strange i (getD bs q 0) (drop (suc q) bs) (drop-cons bs q 0 l) h))
+    let why = strange i (getD bs q 0) (drop (suc q) bs) (drop-cons bs q 0 l) h in
+    stops-refused ar bs x q s (stops-within ar bs x q m (omega arith) b why)
 cause-refused ar bs x q (early i s l m b) =
-    stops-refused ar bs x q s (record { m = m; u = bs; rest = []; begun = b; is = sym (append-nil bs); place = omega arith; why = ended i refl })
+    stops-refused ar bs x q s
+    (record { m = m; u = bs; rest = []; begun = b; is = sym (append-nil bs); place = omega arith; why = ended i refl })
 cause-refused ar bs x q (deep i s l h b) =
-    stops-refused ar bs x q s (stops-within ar bs x q 0 (omega arith) b (under i (getD bs q 0) (drop (suc q) bs) (drop-cons bs q 0 l) h refl))
+    let why = under i (getD bs q 0) (drop (suc q) bs) (drop-cons bs q 0 l) h refl in
+    stops-refused ar bs x q s (stops-within ar bs x q 0 (omega arith) b why)
 cause-refused ar bs x q (behind i s l t r v k) =
     let e : bs ≡ preorder t ++ drop q bs = sym (take-append-drop q bs) ∙ ap (λ (w : List ℕ). w ++ drop q bs) k in
     let c = ap (treeAt depthMost ar 0) e ∙ tree-complete t depthMost ar 0 (drop q bs) r v in

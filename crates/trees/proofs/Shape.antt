@@ -23,12 +23,20 @@ pub record IsTree (ar : List ℕ) (n p : ℕ) (bs : List ℕ) (r : Read Tree) : 
   pub ends : r .place ≡ p + length (preorder (r .value))
 
 -- The same of k trees one after the other.
-pub record IsForest (ar : List ℕ) (n k p : ℕ) (bs : List ℕ) (r : Read Forest) : Type 0 where
-  pub many : count (r .value) ≡ k
-  pub ranks : Rankeds ar (r .value)
-  pub levels : Levelss (r .value) n
-  pub is : bs ≡ preorders (r .value) ++ r .left
-  pub ends : r .place ≡ p + length (preorders (r .value))
+record IsForest (ar : List ℕ) (n k p : ℕ) (bs : List ℕ) (r : Read Forest) : Type 0 where
+  many : count (r .value) ≡ k
+  ranks : Rankeds ar (r .value)
+  levels : Levelss (r .value) n
+  is : bs ≡ preorders (r .value) ++ r .left
+  ends : r .place ≡ p + length (preorders (r .value))
+
+-- The length of trees one after the other, from place p on.
+pub ends-later : (p : ℕ) (u v : List ℕ) → p + length u + length v ≡ p + length (u ++ v)
+ends-later p u v = omega (arith, length-append u v)
+
+-- Bytes that are u and others, which are v and more, are u and v and more.
+pub append-seam : (u v rest : List ℕ) {bs cs : List ℕ} → bs ≡ u ++ cs → cs ≡ v ++ rest → bs ≡ u ++ v ++ rest
+append-seam u v rest e i = e ∙ ap (λ (x : List ℕ). u ++ x) i ∙ sym (append-assoc u v rest)
 
 -- Trees one after the other are read soundly if each is.
 forest-sound : (ar : List ℕ) (n : ℕ) → ((p : ℕ) (bs : List ℕ) (r : Read Tree) → treeAt n ar p bs ≡ given r → IsTree ar n p bs r)
@@ -47,7 +55,7 @@ forest-sound ar n one (suc k) p bs r e =
       many = ap suc (b .many);
       ranks = (a .ranks, b .ranks);
       levels = (a .levels, b .levels);
-      is = a .is ∙ ap (λ (x : List ℕ). preorder (i .0 .value) ++ x) (b .is) ∙ sym (append-assoc (preorder (i .0 .value)) (preorders (j .0 .value)) (j .0 .left));
+      is = append-seam (preorder (i .0 .value)) (preorders (j .0 .value)) (j .0 .left) (a .is) (b .is);
       ends = omega (arith, a .ends, b .ends, length-append (preorder (i .0 .value)) (preorders (j .0 .value)));
     })
 
@@ -81,11 +89,10 @@ mutual
       let i : suc p + length (preorders ts) ≡ p + suc (length (preorders ts)) = omega arith in
       rw (lt-ltb f (length ar) (h .0), ← (h .1), c, i)
 
-  pub forest-complete : (ts : Forest) (n : ℕ) (ar : List ℕ) (p : ℕ) (rest : List ℕ) → Rankeds ar ts → Levelss ts n
+  forest-complete : (ts : Forest) (n : ℕ) (ar : List ℕ) (p : ℕ) (rest : List ℕ) → Rankeds ar ts → Levelss ts n
       → forestAt (treeAt n ar) (count ts) p (preorders ts ++ rest) ≡ given (record { value = ts; place = p + length (preorders ts); left = rest })
   forest-complete ∅ n ar p rest h l = rw add-zero
   forest-complete (t ▸ ts) n ar p rest h l =
       let a = tree-complete t n ar p (preorders ts ++ rest) (h .0) (l .0) in
       let b = forest-complete ts n ar (p + length (preorder t)) rest (h .1) (l .1) in
-      let i : p + length (preorder t) + length (preorders ts) ≡ p + length (preorder t ++ preorders ts) = omega (arith, length-append (preorder t) (preorders ts)) in
-      rw (append-assoc (preorder t) (preorders ts) rest, a, b, i)
+      rw (append-assoc (preorder t) (preorders ts) rest, a, b, ends-later p (preorder t) (preorders ts))

@@ -12,7 +12,7 @@ use Rattle.machine.specs.Ranks.{count, Rankeds}
 use Rattle.trees.specs.Preorder.{preorder, preorders, Levelss}
 use Rattle.trees.specs.Shape.{forestAt, treeAt}
 use Rattle.trees.specs.Causes.{Begun, here, below}
-use Rattle.trees.proofs.Shape.{tree-complete}
+use Rattle.trees.proofs.Shape.{ends-later, tree-complete}
 use Rattle.trees.proofs.Stops.{Why, ended, strange, under, Stops}
 
 -- Where no tree begins, none is read.
@@ -33,12 +33,13 @@ forest-refused ts n zero ar p rest x q c h l e = absurd (omega arith)
 forest-refused ∅ n (suc k) ar p rest x q c h l e = let i : treeAt n ar p rest ≡ refused x q = rw add-zero at e in rw i
 forest-refused (t ▸ ts) n (suc k) ar p rest x q c h l e =
     let a = tree-complete t n ar p (preorders ts ++ rest) (h .0) (l .0) in
-    let i : p + length (preorder t ++ preorders ts) ≡ p + length (preorder t) + length (preorders ts) = omega (arith, length-append (preorder t) (preorders ts)) in
-    let b = forest-refused ts n k ar (p + length (preorder t)) rest x q (omega arith) (h .1) (l .1) (rw i at e) in
+    let e′ = rw (← ends-later p (preorder t) (preorders ts)) at e in
+    let b = forest-refused ts n k ar (p + length (preorder t)) rest x q (omega arith) (h .1) (l .1) e′ in
     rw (append-assoc (preorder t) (preorders ts) rest, a, b)
 
 -- A begun tree with n levels allowed is refused where no tree begins.
-begun-refused : (ar : List ℕ) (m n p : ℕ) (u rest : List ℕ) (x : ℕ) → Begun ar m n u → Why ar m rest x → treeAt n ar p (u ++ rest) ≡ refused x (p + length u)
+begun-refused : (ar : List ℕ) (m n p : ℕ) (u rest : List ℕ) (x : ℕ) → Begun ar m n u → Why ar m rest x
+    → treeAt n ar p (u ++ rest) ≡ refused x (p + length u)
 unfolding treeAt
 begun-refused ar m n p u rest x (here i j) w = rw (i, j, add-zero) (nothing-read m ar p rest x w)
 begun-refused ar m n p u rest x (below {n = n′} f ts v h c r l j b) w =

@@ -1,5 +1,5 @@
 -- The shape of tree bytes: 6; then the tree in preorder, 7 before 10 at a position; then 8 or 11. Definitions only.
-use mathlib.Core.Bool.{Bool, true, false, not, _||_}
+use mathlib.Core.Bool.{not, _||_}
 use mathlib.Core.List.{List, [], _∷_}
 use Prim.Native.Nat.{ℕ, zero, suc}
 use lib.Dec.{eqb, ltb}
@@ -7,9 +7,11 @@ use lib.ListN.{length, getD}
 use Rattle.words.specs.Reply.{Reply, given, refused, _then_, refuse-if}
 use Rattle.machine.specs.Machine.{Tree, Forest, node, ∅, _▸_}
 
+-- The most bytes of a tree.
 abbrev pub treeMost : ℕ
 treeMost = 32768
 
+-- The most levels of a tree.
 abbrev pub depthMost : ℕ
 depthMost = 64
 

@@ -13,15 +13,15 @@ mutual
     -- the root
     here : {q p : ℕ} {t : Tree} (ts : Forest) → t ≡ node f ts → q ≡ s → p ≡ 0 → Stands M s f q t p
     -- a position of the trees below the root, to which the rule for q and the root's symbol leads
-    below : {q p : ℕ} {t : Tree} (g : ℕ) (ts : Forest) (r : Rule) (i : ℕ) → t ≡ node g ts → find (M .rows) q g ≡ some r → StandsIn M s f (r .rest) ts i
-        → p ≡ suc i → Stands M s f q t p
+    below : {q p : ℕ} {t : Tree} (g : ℕ) (ts : Forest) (r : Rule) (i : ℕ) → t ≡ node g ts → find (M .rows) q g ≡ some r
+        → StandsIn M s f (r .rest) ts i → p ≡ suc i → Stands M s f q t p
 
   -- The same of a position of trees one after the other, where the root of each is come to in the state of the rule's child of the same index.
   pub data StandsIn (M : Table) (s f : ℕ) : List Child → Forest → ℕ → Type 0 where
-    first : {cs : List Child} {ts : Forest} {p : ℕ} (c : Child) (more : List Child) (t : Tree) (others : Forest) → cs ≡ c ∷ more → ts ≡ t ▸ others
-        → Stands M s f (c .state) t p → StandsIn M s f cs ts p
-    later : {cs : List Child} {ts : Forest} {p : ℕ} (c : Child) (more : List Child) (t : Tree) (others : Forest) (i : ℕ) → cs ≡ c ∷ more → ts ≡ t ▸ others
-        → StandsIn M s f more others i → p ≡ length (preorder t) + i → StandsIn M s f cs ts p
+    first : {cs : List Child} {ts : Forest} {p : ℕ} (c : Child) (more : List Child) (t : Tree) (others : Forest)
+        → cs ≡ c ∷ more → ts ≡ t ▸ others → Stands M s f (c .state) t p → StandsIn M s f cs ts p
+    later : {cs : List Child} {ts : Forest} {p : ℕ} (c : Child) (more : List Child) (t : Tree) (others : Forest) (i : ℕ)
+        → cs ≡ c ∷ more → ts ≡ t ▸ others → StandsIn M s f more others i → p ≡ length (preorder t) + i → StandsIn M s f cs ts p
 
 -- A position with a state, a symbol, and a rule for them.
 pub record Ruled (M : Table) (at : ℕ → ℕ → Type 0) : Type 0 where

@@ -5,14 +5,14 @@ use Prim.Native.Nat.{ℕ}
 use Rattle.words.specs.Word.{Word}
 use Rattle.words.specs.Reply.{Reply, given, refused, mapped}
 use Rattle.promises.specs.Room.{filled}
-use Rattle.promises.specs.Word.{Letters, lettersOf}
+use Rattle.promises.specs.Word.{WordCounts, lettersOf}
 use Rattle.walk.specs.declared.Walk.{Walk}
 use Rattle.walk.specs.declared.Walk.the-variants as walk
 use Rattle.why_no_word.specs.declared.WordAnswer.{WordAnswer}
 use Rattle.why_no_word.specs.declared.WordAnswer.the-variants as found
 
 -- The paper's answer for each case.
-abbrev pub said : WordAnswer → Reply Letters
+abbrev pub said : WordAnswer → Reply WordCounts
 said (found.Found letters) = given (record { length = letters .length; terms = letters .terms })
 said (found.Refused r) = refused (r .number) (r .place)
 
