@@ -14,7 +14,7 @@ use Rattle.form_laws.proofs.Lists.{mem-all}
 use Rattle.form_laws.proofs.Number.{Known, by-test, number-here, number-there, number-append, known-append}
 use Rattle.form_laws.proofs.Meet.{known-or, meet-old, meet-new, meet-grown, grown-length}
 use Rattle.text.specs.Limits.{statesMost}
-use Rattle.visit.specs.Visiting.{byRep, mark, Listing, Met}
+use Rattle.visit.specs.Visiting.{byRep, mark, Listing, queue, StatesMet}
 
 module _ (same : Test) where
   -- A state that has no number in a list, and is the same as one put behind it, has that one's number.
@@ -94,10 +94,10 @@ module _ (rep : List ℕ) (q : ℕ) {O K : List ℕ} {n c : ℕ} (e : c ≡ getD
   mark-at seen l = ap (λ (k : ℕ). getD K k 0) e ∙ l .marks q
 
   -- A state whose class has a mark is not added.
-  pub met-old : (getD K c 0 ≡ 0 → ⊥) → Met rep (q ∷ []) O K n O K n
+  pub met-old : (getD K c 0 ≡ 0 → ⊥) → StatesMet rep (q ∷ []) (queue O K n) (queue O K n)
   met-old h =
       record {
-        listing = λ seen l k.
+        queued = λ seen l k.
             let d = meet-one-old (byRep rep) seen q (marked-known (byRep rep) seen q (λ z. h (mark-at seen l ∙ z))) in
             subst (λ (s : List ℕ). Listing rep s O K n) (sym d) l;
       }
@@ -108,8 +108,8 @@ module _ (rep : List ℕ) (q : ℕ) {O K : List ℕ} {n c : ℕ} (e : c ≡ getD
     added seen l = meet-one-new (byRep rep) seen q (unmarked-fresh (byRep rep) seen q (sym (mark-at seen l) ∙ z))
 
     -- It would be one too many.
-    pub met-full : statesMost ≤ n → Met rep (q ∷ []) O K n O K n
-    met-full m = record { listing = λ seen l k. absurd (omega (arith, k, ap length (added seen l), length-append seen (q ∷ []), l .count)) }
+    pub met-full : statesMost ≤ n → StatesMet rep (q ∷ []) (queue O K n) (queue O K n)
+    met-full m = record { queued = λ seen l k. absurd (omega (arith, k, ap length (added seen l), length-append seen (q ∷ []), l .count)) }
 
     -- It is put behind the list, and its class is marked.
     listing-new : (seen : List ℕ) → n < length O → c < length K → Listing rep seen O K n → Listing rep (seen ++ q ∷ []) (set O n q) (set K c (n + 1)) (n + 1)
@@ -133,8 +133,8 @@ module _ (rep : List ℕ) (q : ℕ) {O K : List ℕ} {n c : ℕ} (e : c ≡ getD
         number-of = omega (arith, l .count)
 
     -- It is added.
-    pub met-new : n < length O → c < length K → Met rep (q ∷ []) O K n (set O n q) (set K c (n + 1)) (n + 1)
+    pub met-new : n < length O → c < length K → StatesMet rep (q ∷ []) (queue O K n) (queue (set O n q) (set K c (n + 1)) (n + 1))
     met-new lo lk =
         record {
-          listing = λ seen l k. subst (λ (s : List ℕ). Listing rep s (set O n q) (set K c (n + 1)) (n + 1)) (sym (added seen l)) (listing-new seen lo lk l);
+          queued = λ seen l k. subst (λ (s : List ℕ). Listing rep s (set O n q) (set K c (n + 1)) (n + 1)) (sym (added seen l)) (listing-new seen lo lk l);
         }

@@ -12,24 +12,24 @@ use Rattle.machine.specs.Form.{childStates, meet}
 use Rattle.machine.proofs.Find.{index-row}
 use Rattle.form_laws.specs.Listed.{kids}
 use Rattle.layout.specs.Leaves.{RowAt, RulesOf, stateNo}
-use Rattle.visit.specs.Visiting.{byRep, Listing, Met, statesOf}
+use Rattle.visit.specs.Visiting.{byRep, Queue, Queued, StatesMet, statesOf}
 use Rattle.visit.proofs.Marks.{meet-append, meet-longer}
 
 -- No state was met.
-met-none : {rep qs O K : List ℕ} {n : ℕ} → qs ≡ [] → Met rep qs O K n O K n
+met-none : {rep qs : List ℕ} {a : Queue} → qs ≡ [] → StatesMet rep qs a a
 unfolding meet
-met-none {rep} {qs} {O} {K} {n} e = subst (λ (s : List ℕ). Met rep s O K n O K n) (sym e) (record { listing = λ seen l h. l })
+met-none {rep} {qs} {a} e = subst (λ (s : List ℕ). StatesMet rep s a a) (sym e) (record { queued = λ seen l h. l })
 
 -- States were met, and then others: qs in all.
-met-then : {rep xs ys qs O K P L Q J : List ℕ} {n m k : ℕ} → xs ++ ys ≡ qs → Met rep xs O K n P L m → Met rep ys P L m Q J k → Met rep qs O K n Q J k
-met-then {rep} {xs} {ys} {qs} {O} {K} {P} {L} {Q} {J} {n} {m} {k} e f g =
+met-then : {rep xs ys qs : List ℕ} {a b c : Queue} → xs ++ ys ≡ qs → StatesMet rep xs a b → StatesMet rep ys b c → StatesMet rep qs a c
+met-then {rep} {xs} {ys} {qs} {a} {b} {c} e f g =
     record {
-      listing = λ seen l h.
+      queued = λ seen l h.
           let first : List ℕ = meet (byRep rep) seen xs in
           let d : meet (byRep rep) seen qs ≡ meet (byRep rep) first ys =
           ap (λ (s : List ℕ). meet (byRep rep) seen s) (sym e) ∙ meet-append (byRep rep) seen xs ys in
-          subst (λ (s : List ℕ). Listing rep s Q J k) (sym d)
-          (g .listing first (f .listing seen l (omega (arith, ap length d, meet-longer (byRep rep) first ys))) (omega (arith, ap length d)));
+          subst (λ (s : List ℕ). Queued rep s c) (sym d)
+          (g .queued first (f .queued seen l (omega (arith, ap length d, meet-longer (byRep rep) first ys))) (omega (arith, ap length d)));
     }
 
 -- The state of child j is member j of the children's states.
@@ -45,15 +45,15 @@ module _ (cs : List Child) (j : ℕ) {kids : ℕ} (e : kids ≡ length cs) where
   long = length-map cs (λ c. c .state) ∙ sym e
 
   -- Of the children from the next on, that one's state was met, and then the others'.
-  pub children-next : {rep O K P L Q J : List ℕ} {n m k q : ℕ} → j < kids → (j < length cs → q ≡ stateNo cs j) → Met rep (q ∷ []) O K n P L m
-      → Met rep (drop (j + 1) (statesOf cs)) P L m Q J k → Met rep (drop j (statesOf cs)) O K n Q J k
+  pub children-next : {rep : List ℕ} {a b c : Queue} {q : ℕ} → j < kids → (j < length cs → q ≡ stateNo cs j) → StatesMet rep (q ∷ []) a b
+      → StatesMet rep (drop (j + 1) (statesOf cs)) b c → StatesMet rep (drop j (statesOf cs)) a c
   children-next h d =
       met-then
       (ap₂ (λ (s t : ℕ). s ∷ drop t (statesOf cs)) (d (omega arith) ∙ sym (state-at cs j)) (add-one j)
       ∙ sym (drop-cons (statesOf cs) j 0 (omega (arith, long))))
 
   -- Behind the last there is none.
-  pub children-end : {rep O K : List ℕ} {n : ℕ} → kids ≤ j → Met rep (drop j (statesOf cs)) O K n O K n
+  pub children-end : {rep : List ℕ} {a : Queue} → kids ≤ j → StatesMet rep (drop j (statesOf cs)) a a
   children-end h = met-none (drop-of-length-le (statesOf cs) {i = j} (omega (arith, long)))
 
 -- The row at an index.
@@ -64,12 +64,12 @@ row-there (x ∷ rows) (suc i) d h = row-there rows i d (omega arith)
 
 module _ {M : Table} {q from to : ℕ} (h : RulesOf M q from to) where
   -- The child states of a state are those of its rules.
-  pub rules-all : {rep O K P L : List ℕ} {n m : ℕ} → Met rep (childStates (slice from to (M .rows))) O K n P L m → Met rep (kids M q) O K n P L m
-  rules-all {rep} {O} {K} {P} {L} {n} {m} = subst (λ (l : List Row). Met rep (childStates l) O K n P L m) (sym (h .rows))
+  pub rules-all : {rep : List ℕ} {a b : Queue} → StatesMet rep (childStates (slice from to (M .rows))) a b → StatesMet rep (kids M q) a b
+  rules-all {rep} {a} {b} = subst (λ (l : List Row). StatesMet rep (childStates l) a b) (sym (h .rows))
 
   -- Of the rules from the next on, the states of that one's children were met, and then the others'.
-  pub rules-next : {rep O K P L Q J : List ℕ} {n m k : ℕ} (i : ℕ) → i < to → ((r : Row) → RowAt M i r → Met rep (statesOf (r .rule .rest)) O K n P L m)
-      → Met rep (childStates (slice (i + 1) to (M .rows))) P L m Q J k → Met rep (childStates (slice i to (M .rows))) O K n Q J k
+  pub rules-next : {rep : List ℕ} {a b c : Queue} (i : ℕ) → i < to → ((r : Row) → RowAt M i r → StatesMet rep (statesOf (r .rule .rest)) a b)
+      → StatesMet rep (childStates (slice (i + 1) to (M .rows))) b c → StatesMet rep (childStates (slice i to (M .rows))) a c
   unfolding childStates
   rules-next i b f =
       let l : i < length (M .rows) = omega (arith, h .few) in
@@ -79,6 +79,6 @@ module _ {M : Table} {q from to : ℕ} (h : RulesOf M q from to) where
       (f (getD (M .rows) i d) (row-there (M .rows) i d l))
 
 -- Behind the last there is none.
-pub rules-end : (M : Table) {rep O K : List ℕ} {n : ℕ} (i to : ℕ) → to ≤ i → Met rep (childStates (slice i to (M .rows))) O K n O K n
+pub rules-end : (M : Table) {rep : List ℕ} {a : Queue} (i to : ℕ) → to ≤ i → StatesMet rep (childStates (slice i to (M .rows))) a a
 unfolding childStates
 rules-end M i to b = met-none (ap childStates (drop-of-length-le (take to (M .rows)) {i = i} (omega (arith, length-take to (M .rows)))))

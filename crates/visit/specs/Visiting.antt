@@ -24,13 +24,27 @@ pub record Listing (rep seen O K : List ℕ) (n : ℕ) : Type 0 where
   pub listed : take n O ≡ seen
   pub marks : (q : ℕ) → getD K (getD rep q 0) 0 ≡ mark (byRep rep) seen q
 
--- O has an entry for each state that a table may have, K one for each class.
-abbrev pub Room : (rep O K : List ℕ) → Type 0
-Room rep O K = (statesMost ≤ length O) × ((q : ℕ) → getD rep q 0 < length K)
+-- The states that were met in turn, and the marks of their classes, in lent bytes.
+pub record Queue : Type 0 where
+  pub order : List ℕ
+  pub known : List ℕ
+  pub count : ℕ
 
--- The states qs were met: whatever list the entries held, they hold it with the new ones, if these are not too many.
-pub record Met (rep qs O K : List ℕ) (n : ℕ) (P L : List ℕ) (m : ℕ) : Type 0 where
-  pub listing : (seen : List ℕ) → Listing rep seen O K n → length (meet (byRep rep) seen qs) ≤ statesMost → Listing rep (meet (byRep rep) seen qs) P L m
+-- The queue in the bytes O and K, with n states.
+abbrev pub queue : (O K : List ℕ) (n : ℕ) → Queue
+queue O K n = record { order = O; known = K; count = n }
+
+-- The queue holds the list of states.
+abbrev pub Queued : (rep seen : List ℕ) → Queue → Type 0
+Queued rep seen a = Listing rep seen (a .order) (a .known) (a .count)
+
+-- O has an entry for each state that a table may have, K one for each class.
+abbrev pub QueueRoom : (rep O K : List ℕ) → Type 0
+QueueRoom rep O K = (statesMost ≤ length O) × ((q : ℕ) → getD rep q 0 < length K)
+
+-- The states qs were met: whatever list the queue a held, b holds it with the new ones, if these are not too many.
+pub record StatesMet (rep qs : List ℕ) (a b : Queue) : Type 0 where
+  pub queued : (seen : List ℕ) → Queued rep seen a → length (meet (byRep rep) seen qs) ≤ statesMost → Queued rep (meet (byRep rep) seen qs) b
 
 -- The states of children, from left to right.
 abbrev pub statesOf : List Child → List ℕ

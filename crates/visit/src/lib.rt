@@ -9,7 +9,7 @@ ghost use Rattle.text.specs.Limits.{statesMost};
 ghost use Rattle.layout.specs.Layout.{MeantBy};
 ghost use Rattle.layout.specs.Leaves.{Holds};
 ghost use Rattle.form_laws.specs.Listed.{kids};
-ghost use Rattle.visit.specs.Visiting.{Room, Met, statesOf, Visits};
+ghost use Rattle.visit.specs.Visiting.{QueueRoom, queue, StatesMet, statesOf, Visits};
 ghost use Rattle.visit.specs.Reaches.{Own, Reaches};
 use layout::STATES;
 use layout::byte;
@@ -23,9 +23,10 @@ use layout::wide;
 // Meets state q: if its class is not known, the class gets the next free number, and q is put behind the states of the list.
 // `known` has, for each class, one more than its number, or 0; the answer is how many states are listed then.
 fn meet(rep: &[u8], q: usize, order: &mut [u8], known: &mut [u8], count: usize) -> usize
-    requires { ⌜ (q < statesMost) × (count ≤ statesMost) × Room (now rep) (now order) (now known) ⌝ }
+    requires { ⌜ (q < statesMost) × (count ≤ statesMost) × QueueRoom (now rep) (now order) (now known) ⌝ }
     ensures { λ r. ⌜ r ≤ statesMost ⌝ }
-    ensures { λ r. ⌜ Met (now (rep .entry)) (q ∷ []) (now (order .entry)) (now (known .entry)) count (now (order .exit)) (now (known .exit)) r ⌝ }
+    ensures { λ r. ⌜ StatesMet (now (rep .entry)) (q ∷ []) (queue (now (order .entry)) (now (known .entry)) count)
+        (queue (now (order .exit)) (now (known .exit)) r) ⌝ }
 {
     let class = wide(byte(rep, q));
     if known[class] != 0 {
@@ -41,10 +42,11 @@ fn meet(rep: &[u8], q: usize, order: &mut [u8], known: &mut [u8], count: usize) 
 
 // Meets the states of a rule's children, from left to right; x is what is kept for the rule.
 fn meet_children(x: u64, rep: &[u8], order: &mut [u8], known: &mut [u8], count: usize) -> usize
-    requires { ⌜ (count ≤ statesMost) × Room (now rep) (now order) (now known) ⌝ }
+    requires { ⌜ (count ≤ statesMost) × QueueRoom (now rep) (now order) (now known) ⌝ }
     ensures { λ n. ⌜ n ≤ statesMost ⌝ }
     ensures { λ n. ⌜ ((i : ℕ) (r : Rule) → Holds x i r
-        → Met (now (rep .entry)) (statesOf (r .rest)) (now (order .entry)) (now (known .entry)) count (now (order .exit)) (now (known .exit)) n) ⌝ }
+        → StatesMet (now (rep .entry)) (statesOf (r .rest)) (queue (now (order .entry)) (now (known .entry)) count)
+        (queue (now (order .exit)) (now (known .exit)) n)) ⌝ }
 {
     let kids = kids_in(x);
     let mut n = count;
@@ -65,9 +67,10 @@ fn meet_rules(
     known: &mut [u8],
     count: usize,
 ) -> usize
-    requires { ⌜ (count ≤ statesMost) × Room (now rep) (now order) (now known) ⌝ }
+    requires { ⌜ (count ≤ statesMost) × QueueRoom (now rep) (now order) (now known) ⌝ }
     ensures { λ n. ⌜ n ≤ statesMost ⌝ }
-    ensures { λ n. ⌜ MeantBy (now (numbers .entry)) (λ M. Met (now (rep .entry)) (kids M q) (now (order .entry)) (now (known .entry)) count (now (order .exit)) (now (known .exit)) n) ⌝ }
+    ensures { λ n. ⌜ MeantBy (now (numbers .entry)) (λ M. StatesMet (now (rep .entry)) (kids M q)
+        (queue (now (order .entry)) (now (known .entry)) count) (queue (now (order .exit)) (now (known .exit)) n)) ⌝ }
 {
     let rules = rules_of(numbers, q);
     let to = rules.to;
@@ -83,7 +86,7 @@ fn meet_rules(
 // Visits the states from the initial one on, in order of their numbers, where no class is known yet.
 // The answer is how many states have a number.
 pub fn visit(numbers: &[u64], rep: &[u8], order: &mut [u8], known: &mut [u8]) -> usize
-    requires { ⌜ Room (now rep) (now order) (now known) ⌝ }
+    requires { ⌜ QueueRoom (now rep) (now order) (now known) ⌝ }
     ensures { λ n. ⌜ n ≤ statesMost ⌝ }
     ensures { λ n. ⌜ Visits (now (numbers .entry)) (now (rep .entry)) (now (known .entry)) (now (order .exit)) (now (known .exit)) n ⌝ }
 {

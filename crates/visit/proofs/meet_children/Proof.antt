@@ -1,6 +1,5 @@
 -- `meet_children` meets its contract: whatever meets the states of the children that remain meets those of all.
 use mathlib.Core.Path.{_≡_, refl}
-use mathlib.Core.List.{List}
 use Prim.Native.Nat.{ℕ, _-_, _≤_}
 use native.Mathlib.Omega.{arith}
 use lib.ListN.{length, drop}
@@ -8,7 +7,7 @@ use borrow.Author.Needs.{needs}
 use Rattle.machine.specs.Machine.{Rule}
 use Rattle.text.specs.Limits.{statesMost}
 use Rattle.layout.specs.Leaves.{Holds}
-use Rattle.visit.specs.Visiting.{Met, statesOf}
+use Rattle.visit.specs.Visiting.{Queue, queue, StatesMet, statesOf}
 use Rattle.visit.proofs.Meeting.{children-next, children-end}
 use Rattle.visit.proofs.meet_children.Statement.{statement}
 use Rattle.visit.proofs.meet_children.Tie as tie
@@ -16,44 +15,45 @@ use Rattle.visit.proofs.meet_children.Tie as tie
 abbrev Inv-loop : tie.InvT-loop
 Inv-loop x rep order₀ known₀ count kids n₀ j₀ order known n j =
     (n ≤ statesMost) × (length order ≡ length order₀) × (length known ≡ length known₀)
-    × ((i : ℕ) (r : Rule) (P L : List ℕ) (m : ℕ) → Holds x i r → Met rep (drop j (statesOf (r .rest))) order known n P L m
-    → Met rep (statesOf (r .rest)) order₀ known₀ count P L m)
+    × ((i : ℕ) (r : Rule) (b : Queue) → Holds x i r → StatesMet rep (drop j (statesOf (r .rest))) (queue order known n) b
+    → StatesMet rep (statesOf (r .rest)) (queue order₀ known₀ count) b)
 
 abbrev μ-loop : tie.MeasureT-loop
 μ-loop x rep order₀ known₀ count kids n₀ j₀ order known n j = kids - j
 
 loop-holds : tie.Need-loop-holds Inv-loop μ-loop
 loop-holds c =
-    let c4 = c .before .before .before .before in
-    (c4 .pre .0, refl, refl, λ i r P L m h g. g)
+    let at-entry = c .before .before .before .before in
+    (at-entry .pre .0, refl, refl, λ i r b h g. g)
 
 meet-requires : tie.Need-meet-requires Inv-loop μ-loop
 meet-requires c κs =
-    let c4 = c .before .before .before .before in
-    let c9 = c4 .before .before .before .before .before in
-    (search needs, c4 .loop .inv .0, (omega (arith, c9 .pre, c4 .loop .inv), λ q. omega (arith, c9 .pre .1 .1 q, c4 .loop .inv .2)))
+    let at-loop = c .before .before .before .before in
+    let at-entry = at-loop .before .before .before .before .before in
+    (search needs, at-loop .loop .inv .0, (omega (arith, at-entry .pre, at-loop .loop .inv), λ q. omega (arith, at-entry .pre .1 .1 q, at-loop .loop .inv .2)))
 
 loop-again : tie.Need-loop-again Inv-loop μ-loop
 loop-again c =
-    let c4 = c .before .before .before .before in
-    let c7 = c4 .before .before .before in
-    let c8 = c7 .before in
-    let c9 = c8 .before in
-    let c10 = c9 .before in
-    let loop = c9 .loop in (
-      c4 .meet .ensures .0,
+    let at-meet = c .before .before .before .before in
+    let at-child-in = at-meet .before .before .before in
+    let at-loop-test = at-child-in .before in
+    let at-loop = at-loop-test .before in
+    let at-kids-in = at-loop .before in
+    let loop = at-loop .loop in (
+      at-meet .meet .ensures .0,
       search needs,
       search needs,
-      λ i r P L m h g.
-          let k = c10 .kids-in .ensures .1 i r h in
-          loop .inv .3 i r P L m h (children-next (r .rest) (loop .j) k (c8 .loop-test .taken) (c7 .child-in .ensures .1 i r h) (c4 .meet .ensures .1) g),
+      λ i r b h g.
+          let k = at-kids-in .kids-in .ensures .1 i r h in
+          let state = at-child-in .child-in .ensures .1 i r h in
+          loop .inv .3 i r b h (children-next (r .rest) (loop .j) k (at-loop-test .loop-test .taken) state (at-meet .meet .ensures .1) g),
     )
 
 returns : tie.Need-returns Inv-loop μ-loop
 returns c =
     let loop = c .before .loop in
     let kids = c .before .before .kids-in in
-    (loop .inv .0, λ i r h. loop .inv .3 i r _ _ _ h (children-end (r .rest) (loop .j) (kids .ensures .1 i r h) (c .loop-test .left)))
+    (loop .inv .0, λ i r h. loop .inv .3 i r _ h (children-end (r .rest) (loop .j) (kids .ensures .1 i r h) (c .loop-test .left)))
 
 pub meet-children-spec : {M : Type 1} → statement M
 meet-children-spec =

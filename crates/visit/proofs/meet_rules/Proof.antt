@@ -11,7 +11,7 @@ use Rattle.machine.specs.Form.{childStates}
 use Rattle.text.specs.Limits.{statesMost}
 use Rattle.layout.specs.Layout.{Opened}
 use Rattle.form_laws.specs.Listed.{kids}
-use Rattle.visit.specs.Visiting.{Met}
+use Rattle.visit.specs.Visiting.{Queue, queue, StatesMet}
 use Rattle.visit.proofs.Meeting.{rules-all, rules-next, rules-end}
 use Rattle.visit.proofs.meet_rules.Statement.{statement}
 use Rattle.visit.proofs.meet_rules.Tie as tie
@@ -19,42 +19,42 @@ use Rattle.visit.proofs.meet_rules.Tie as tie
 abbrev Inv-loop : tie.InvT-loop
 Inv-loop numbers q rep order₀ known₀ count to i₀ n₀ order known i n =
     (n ≤ statesMost) × (length order ≡ length order₀) × (length known ≡ length known₀)
-    × ((F : List ℕ) (M : Table) (P L : List ℕ) (m : ℕ) → Opened F numbers M → Met rep (childStates (slice i to (M .rows))) order known n P L m
-    → Met rep (kids M q) order₀ known₀ count P L m)
+    × ((F : List ℕ) (M : Table) (b : Queue) → Opened F numbers M → StatesMet rep (childStates (slice i to (M .rows))) (queue order known n) b
+    → StatesMet rep (kids M q) (queue order₀ known₀ count) b)
 
 abbrev μ-loop : tie.MeasureT-loop
 μ-loop numbers q rep order₀ known₀ count to i₀ n₀ order known i n = to - i
 
 loop-holds : tie.Need-loop-holds Inv-loop μ-loop
 loop-holds c =
-    let c5 = c .before .before .before .before .before in
-    (c5 .pre .0, refl, refl, λ F M P L m o. rules-all (c .rules-of .ensures .1 F M o))
+    let at-entry = c .before .before .before .before .before in
+    (at-entry .pre .0, refl, refl, λ F M b o. rules-all (c .rules-of .ensures .1 F M o))
 
 meet-children-requires : tie.Need-meet-children-requires Inv-loop μ-loop
 meet-children-requires c κs =
-    let c4 = c .before .before .before .before in
-    let c10 = c4 .before .before .before .before .before .before in
-    (c4 .loop .inv .0, (omega (arith, c10 .pre, c4 .loop .inv), λ q. omega (arith, c10 .pre .1 .1 q, c4 .loop .inv .2)))
+    let at-loop = c .before .before .before .before in
+    let at-entry = at-loop .before .before .before .before .before .before in
+    (at-loop .loop .inv .0, (omega (arith, at-entry .pre, at-loop .loop .inv), λ q. omega (arith, at-entry .pre .1 .1 q, at-loop .loop .inv .2)))
 
 loop-again : tie.Need-loop-again Inv-loop μ-loop
 loop-again c =
-    let c4 = c .before .before .before .before in
-    let c7 = c4 .before .before .before in
-    let c8 = c7 .before in
-    let c9 = c8 .before in
-    let c10 = c9 .before in
-    let loop = c9 .loop in (
-      c4 .meet-children .ensures .0,
+    let at-meet-children = c .before .before .before .before in
+    let at-kept-of = at-meet-children .before .before .before in
+    let at-loop-test = at-kept-of .before in
+    let at-loop = at-loop-test .before in
+    let at-rules-of = at-loop .before in
+    let loop = at-loop .loop in (
+      at-meet-children .meet-children .ensures .0,
       search needs,
       search needs,
-      λ F M P L m o g.
-          loop .inv .3 F M P L m o
-          (rules-next (c10 .rules-of .ensures .1 F M o) (loop .i) (c8 .loop-test .taken)
-          (λ r e. c4 .meet-children .ensures .1 (loop .i) (r .rule) (c7 .kept-of .ensures F M r o e)) g),
+      λ F M b o g.
+          loop .inv .3 F M b o
+          (rules-next (at-rules-of .rules-of .ensures .1 F M o) (loop .i) (at-loop-test .loop-test .taken)
+          (λ r e. at-meet-children .meet-children .ensures .1 (loop .i) (r .rule) (at-kept-of .kept-of .ensures F M r o e)) g),
     )
 
 returns : tie.Need-returns Inv-loop μ-loop
-returns c = (c .before .loop .inv .0, λ F M o. c .before .loop .inv .3 F M _ _ _ o (rules-end M (c .before .loop .i) _ (c .loop-test .left)))
+returns c = (c .before .loop .inv .0, λ F M o. c .before .loop .inv .3 F M _ o (rules-end M (c .before .loop .i) _ (c .loop-test .left)))
 
 pub meet-rules-spec : {M : Type 1} → statement M
 meet-rules-spec =
