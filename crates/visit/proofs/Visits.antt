@@ -13,8 +13,8 @@ use Rattle.form_laws.specs.Listed.{Selfsame, kids}
 use Rattle.form_laws.proofs.Visit.{Visited, visited-start, visited-step, visited-length}
 use Rattle.form_laws.proofs.Order.{visit-next, visit-done, order-enough}
 use Rattle.layout.specs.Layout.{Opened}
-use Rattle.visit.specs.Visiting.{byRep, Listing, Queue, Queued, queue, StatesMet}
-use Rattle.visit.proofs.Marks.{mark-fresh, meet-one-new}
+use Rattle.queue.specs.Queue.{byRep, Listing, Queue, Queued, queue, StatesMet}
+use Rattle.queue.proofs.Marks.{mark-fresh, meet-one-new}
 
 -- By classes each state is the same as itself.
 pub class-self : (rep : List ℕ) (M : Table) → Selfsame (byRep rep) M

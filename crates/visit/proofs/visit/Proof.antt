@@ -8,7 +8,7 @@ use borrow.Author.Needs.{needs}
 use Rattle.machine.specs.Machine.{Table}
 use Rattle.text.specs.Limits.{statesMost}
 use Rattle.layout.specs.Layout.{Opened}
-use Rattle.visit.specs.Visiting.{queue}
+use Rattle.queue.specs.Queue.{queue}
 use Rattle.visit.proofs.Visits.{Under, under-start, under-next, under-done}
 use Rattle.visit.proofs.visit.Statement.{statement}
 use Rattle.visit.proofs.visit.Tie as tie

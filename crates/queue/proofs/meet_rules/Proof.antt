@@ -11,10 +11,10 @@ use Rattle.machine.specs.Form.{childStates}
 use Rattle.text.specs.Limits.{statesMost}
 use Rattle.layout.specs.Layout.{Opened}
 use Rattle.form_laws.specs.Listed.{kids}
-use Rattle.visit.specs.Visiting.{Queue, queue, StatesMet}
-use Rattle.visit.proofs.Meeting.{rules-all, rules-next, rules-end}
-use Rattle.visit.proofs.meet_rules.Statement.{statement}
-use Rattle.visit.proofs.meet_rules.Tie as tie
+use Rattle.queue.specs.Queue.{Queue, queue, StatesMet}
+use Rattle.queue.proofs.Meeting.{rules-all, rules-next, rules-end}
+use Rattle.queue.proofs.meet_rules.Statement.{statement}
+use Rattle.queue.proofs.meet_rules.Tie as tie
 
 abbrev Inv-loop : tie.InvT-loop
 Inv-loop numbers q rep order₀ known₀ count to i₀ n₀ order known i n =

@@ -12,8 +12,8 @@ use Rattle.machine.specs.Form.{childStates, meet}
 use Rattle.machine.proofs.Find.{index-row}
 use Rattle.form_laws.specs.Listed.{kids}
 use Rattle.layout.specs.Leaves.{RowAt, RulesOf, stateNo}
-use Rattle.visit.specs.Visiting.{byRep, Queue, Queued, StatesMet, statesOf}
-use Rattle.visit.proofs.Marks.{meet-append, meet-longer}
+use Rattle.queue.specs.Queue.{byRep, Queue, Queued, StatesMet, statesOf}
+use Rattle.queue.proofs.Marks.{meet-append, meet-longer}
 
 -- No state was met.
 met-none : {rep qs : List ℕ} {a : Queue} → qs ≡ [] → StatesMet rep qs a a

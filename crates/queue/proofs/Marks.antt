@@ -14,7 +14,7 @@ use Rattle.form_laws.proofs.Lists.{mem-all}
 use Rattle.form_laws.proofs.Number.{Known, by-test, number-here, number-there, number-append, known-append}
 use Rattle.form_laws.proofs.Meet.{known-or, meet-old, meet-new, meet-grown, grown-length}
 use Rattle.text.specs.Limits.{statesMost}
-use Rattle.visit.specs.Visiting.{byRep, mark, Listing, queue, StatesMet}
+use Rattle.queue.specs.Queue.{byRep, mark, Listing, queue, StatesMet}
 
 module _ (same : Test) where
   -- A state that has no number in a list, and is the same as one put behind it, has that one's number.

@@ -2,9 +2,9 @@
 use mathlib.Core.Path.{_∙_}
 use native.Mathlib.Omega.{arith}
 use borrow.Author.Needs.{needs}
-use Rattle.visit.proofs.Marks.{met-old, met-full, met-new}
-use Rattle.visit.proofs.meet.Statement.{statement}
-use Rattle.visit.proofs.meet.Tie as tie
+use Rattle.queue.proofs.Marks.{met-old, met-full, met-new}
+use Rattle.queue.proofs.meet.Statement.{statement}
+use Rattle.queue.proofs.meet.Tie as tie
 
 slice-read-if1 : tie.Need-slice-read-if1
 slice-read-if1 c =

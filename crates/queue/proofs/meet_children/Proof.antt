@@ -7,10 +7,10 @@ use borrow.Author.Needs.{needs}
 use Rattle.machine.specs.Machine.{Rule}
 use Rattle.text.specs.Limits.{statesMost}
 use Rattle.layout.specs.Leaves.{Holds}
-use Rattle.visit.specs.Visiting.{Queue, queue, StatesMet, statesOf}
-use Rattle.visit.proofs.Meeting.{children-next, children-end}
-use Rattle.visit.proofs.meet_children.Statement.{statement}
-use Rattle.visit.proofs.meet_children.Tie as tie
+use Rattle.queue.specs.Queue.{Queue, queue, StatesMet, statesOf}
+use Rattle.queue.proofs.Meeting.{children-next, children-end}
+use Rattle.queue.proofs.meet_children.Statement.{statement}
+use Rattle.queue.proofs.meet_children.Tie as tie
 
 abbrev Inv-loop : tie.InvT-loop
 Inv-loop x rep order₀ known₀ count kids n₀ j₀ order known n j =
