@@ -52,7 +52,7 @@ byTests s t u v w z a b c d e f other =
     ]
 
 -- A number that is none of 13 to 18.
-pub by-none : {A : Type 0} (n : ℕ) (a b c d e f o : A) → (n ≡ 13 → ⊥) → (n ≡ 14 → ⊥) → (n ≡ 15 → ⊥) → (n ≡ 16 → ⊥) → (n ≡ 17 → ⊥) → (n ≡ 18 → ⊥)
+by-none : {A : Type 0} (n : ℕ) (a b c d e f o : A) → (n ≡ 13 → ⊥) → (n ≡ 14 → ⊥) → (n ≡ 15 → ⊥) → (n ≡ 16 → ⊥) → (n ≡ 17 → ⊥) → (n ≡ 18 → ⊥)
     → byNumber n a b c d e f o ≡ o
 by-none n a b c d e f o i j k l m h =
     ap (λ x. byTests x (eqb n 14) (eqb n 15) (eqb n 16) (eqb n 17) (eqb n 18) a b c d e f o) (ne-eqb n 13 i)

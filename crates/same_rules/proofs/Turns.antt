@@ -16,7 +16,7 @@ use Rattle.layout.specs.Leaves.{Spot}
 use Rattle.same_rules.specs.Compared.{Any}
 
 -- What stands at spots a and b, with so many children behind each, decides P.
-pub record Left (F G : List ℕ) (a b left : ℕ) (P : Type 0) : Type 0 where
+pub record WordsLeft (F G : List ℕ) (a b left : ℕ) (P : Type 0) : Type 0 where
   pub one : Word
   pub other : Word
   pub cs : List Child
@@ -28,16 +28,16 @@ pub record Left (F G : List ℕ) (a b left : ℕ) (P : Type 0) : Type 0 where
   pub decides : ((one ≡ other) × Rests Any cs ds) ↔ P
 
 -- From spot a on, one child further on, is spot b.
-abbrev pub Next : List ℕ → ℕ → ℕ → Type 0
-Next F a b = (u : Word) (c : Child) (cs : List Child) → Spot F u (c ∷ cs) a → Spot F (c .after) cs b
+abbrev pub ChildFurther : List ℕ → ℕ → ℕ → Type 0
+ChildFurther F a b = (u : Word) (c : Child) (cs : List Child) → Spot F u (c ∷ cs) a → Spot F (c .after) cs b
 
-module _ {F G : List ℕ} {a b left : ℕ} {P : Type 0} (l : Left F G a b left P) where
+module _ {F G : List ℕ} {a b left : ℕ} {P : Type 0} (l : WordsLeft F G a b left P) where
   -- One child further on, where the words are equal.
-  pub left-next : {a′ b′ : ℕ} → 0 < left → l .one ≡ l .other → Next F a a′ → Next G b b′ → Left F G a′ b′ (left - 1) P
-  left-next {a′} {b′} n e h k = go (l .cs) (l .ds) (l .here) (l .there) (l .mine) (l .others) (l .decides)
+  pub words-next : {a′ b′ : ℕ} → 0 < left → l .one ≡ l .other → ChildFurther F a a′ → ChildFurther G b b′ → WordsLeft F G a′ b′ (left - 1) P
+  words-next {a′} {b′} n e h k = go (l .cs) (l .ds) (l .here) (l .there) (l .mine) (l .others) (l .decides)
     where
       go : (cs ds : List Child) → Spot F (l .one) cs a → Spot G (l .other) ds b → left ≡ length cs → left ≡ length ds
-          → (((l .one ≡ l .other) × Rests Any cs ds) ↔ P) → Left F G a′ b′ (left - 1) P
+          → (((l .one ≡ l .other) × Rests Any cs ds) ↔ P) → WordsLeft F G a′ b′ (left - 1) P
       go [] ds s t m o i = absurd (omega arith)
       go (c ∷ cs) [] s t m o i = absurd (omega arith)
       go (c ∷ cs) (d ∷ ds) s t m o i =
@@ -54,8 +54,8 @@ module _ {F G : List ℕ} {a b left : ℕ} {P : Type 0} (l : Left F G a b left P
           }
 
   -- Where no child is left, the words decide.
-  pub left-last : {z : Bool} → left ≡ 0 → Told (l .one ≡ l .other) z → Told P z
-  left-last n t = told-map (λ e. l .decides .0 (e, none (l .cs) (l .ds) (l .mine) (l .others))) (λ p. l .decides .1 p .0) t
+  pub words-last : {z : Bool} → left ≡ 0 → Told (l .one ≡ l .other) z → Told P z
+  words-last n t = told-map (λ e. l .decides .0 (e, none (l .cs) (l .ds) (l .mine) (l .others))) (λ p. l .decides .1 p .0) t
     where
       none : (cs ds : List Child) → left ≡ length cs → left ≡ length ds → Rests Any cs ds
       none [] [] m o = tt
@@ -63,9 +63,9 @@ module _ {F G : List ℕ} {a b left : ℕ} {P : Type 0} (l : Left F G a b left P
       none (c ∷ cs) ds m o = absurd (omega arith)
 
 -- All of it is left.
-pub left-all : {F G : List ℕ} {a b left : ℕ} (u v : Word) (cs ds : List Child) → Spot F u cs a → Spot G v ds b → left ≡ length cs → left ≡ length ds
-    → Left F G a b left ((u ≡ v) × Rests Any cs ds)
-left-all u v cs ds s t m o =
+pub words-all : {F G : List ℕ} {a b left : ℕ} (u v : Word) (cs ds : List Child) → Spot F u cs a → Spot G v ds b → left ≡ length cs → left ≡ length ds
+    → WordsLeft F G a b left ((u ≡ v) × Rests Any cs ds)
+words-all u v cs ds s t m o =
     record { one = u; other = v; cs = cs; ds = ds; here = s; there = t; mine = m; others = o; decides = (λ h. h, λ h. h) }
 
 module _ (R : ℕ → ℕ → Type 0) where

@@ -2,12 +2,7 @@
 // Rows are compared where the numbers are as many as an opened table's. Nothing else is asked of the lent bytes and numbers:
 // each contract speaks of every two tables that they mean, which may be one.
 pub use rows::same_children;
-pub use rows::same_rows;
 pub use rows::same_shapes;
-pub use rule::kids_alike;
-pub use rule::same_rule;
-pub use rule::same_words;
 
 mod letters;
 mod rows;
-mod rule;

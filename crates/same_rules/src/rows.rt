@@ -117,26 +117,3 @@ pub fn same_children(
     }
     true
 }
-
-// Whether the rows of q and r match with children that are alike.
-pub fn same_rows(
-    frames: &[u8],
-    numbers: &[u64],
-    map: &[u8],
-    q: usize,
-    frames2: &[u8],
-    numbers2: &[u64],
-    map2: &[u8],
-    r: usize,
-) -> bool
-    requires { ⌜ Whole (now numbers) q × Whole (now numbers2) r × Mapped (now map) (now map2) ⌝ }
-    ensures { λ x. ⌜ ((M N : Table) → Opened (now (frames .entry)) (now (numbers .entry)) M
-        → Opened (now (frames2 .entry)) (now (numbers2 .entry)) N → q < M .states → r < N .states
-        → Told (Match M N (Alike (now (map .entry)) (now (map2 .entry))) q r) x) ⌝ }
-{
-    let mine = layout::rules_here(numbers, q);
-    if !same_shapes(frames, numbers, q, mine, frames2, numbers2, r) {
-        return false;
-    }
-    same_children(numbers, map, q, mine, numbers2, map2, r)
-}

@@ -13,17 +13,17 @@ use Rattle.form_laws.specs.Listed.{Selfsame, kids}
 use Rattle.form_laws.proofs.Visit.{Visited, visited-start, visited-step, visited-length}
 use Rattle.form_laws.proofs.Order.{visit-next, visit-done, order-enough}
 use Rattle.layout.specs.Layout.{Opened}
-use Rattle.queue.specs.Queue.{byRep, Listing, Queue, Queued, queue, StatesMet}
-use Rattle.queue.proofs.Marks.{mark-fresh, meet-one-new}
+use Rattle.visit_queue.specs.Queue.{byRep, Listing, VisitQueue, QueueHolds, queueOf, StatesMet}
+use Rattle.visit_queue.proofs.Marks.{mark-fresh, meet-one-new}
 
 -- By classes each state is the same as itself.
 pub class-self : (rep : List ℕ) (M : Table) → Selfsame (byRep rep) M
 class-self rep M q l = eq-eqb (getD rep q 0) (getD rep q 0) refl
 
 -- What holds once the states below number i have been taken: the queue holds a list, and the visit from there on gives the order.
-pub record Under (rep : List ℕ) (M : Table) (a : Queue) (i : ℕ) : Type 0 where
+pub record Under (rep : List ℕ) (M : Table) (a : VisitQueue) (i : ℕ) : Type 0 where
   pub seen : List ℕ
-  pub queued : Queued rep seen a
+  pub queued : QueueHolds rep seen a
   pub visited : Visited (byRep rep) M i seen
   pub rest : (k : ℕ) → M .states ≤ i + k → order (byRep rep) M ≡ visit (byRep rep) (M .rows) k i seen
 
@@ -33,19 +33,20 @@ listing-none rep O K z = record { count = refl; listed = refl; marks = λ q. z (
 
 module _ (rep : List ℕ) {F I : List ℕ} {M : Table} (o : Opened F I M) where
   -- The initial state is listed first.
-  pub under-start : {O K : List ℕ} {a : Queue} (q : ℕ) → q ≡ M .start → ((i : ℕ) → getD K i 0 ≡ 0) → StatesMet rep (q ∷ []) (queue O K 0) a → Under rep M a 0
+  pub under-start : {O K : List ℕ} {a : VisitQueue} (q : ℕ) → q ≡ M .start → ((i : ℕ) → getD K i 0 ≡ 0)
+      → StatesMet rep (q ∷ []) (queueOf O K 0) a → Under rep M a 0
   under-start {O} {K} {a} q e z f =
       let d : meet (byRep rep) [] (q ∷ []) ≡ q ∷ [] = meet-one-new (byRep rep) [] q (omega arith) in
       record {
         seen = M .start ∷ [];
-        queued = subst (λ (s : List ℕ). Queued rep s a) (d ∙ ap (λ (s : ℕ). s ∷ []) e)
+        queued = subst (λ (s : List ℕ). QueueHolds rep s a) (d ∙ ap (λ (s : ℕ). s ∷ []) e)
             (f .queued [] (listing-none rep O K z) (omega (arith, ap length d)));
         visited = visited-start (byRep rep) M (o .limited .made) (class-self rep M);
         rest = λ k h. order-enough (byRep rep) M (o .limited .made) (class-self rep M) k (omega arith);
       }
 
   -- The next state is taken.
-  pub under-next : {a b : Queue} {i : ℕ} (q : ℕ) → Under rep M a i → i < a .count → q ≡ getD (a .order) i 0 → StatesMet rep (kids M q) a b
+  pub under-next : {a b : VisitQueue} {i : ℕ} (q : ℕ) → Under rep M a i → i < a .count → q ≡ getD (a .order) i 0 → StatesMet rep (kids M q) a b
       → Under rep M b (i + 1)
   under-next {a} {b} {i} q u h e f =
       let same = byRep rep in
@@ -65,7 +66,7 @@ module _ (rep : List ℕ) {F I : List ℕ} {M : Table} (o : Opened F I M) where
       })
 
   -- All listed states have been taken.
-  pub under-done : {a : Queue} {i : ℕ} → Under rep M a i → a .count ≤ i → Queued rep (order (byRep rep) M) a
+  pub under-done : {a : VisitQueue} {i : ℕ} → Under rep M a i → a .count ≤ i → QueueHolds rep (order (byRep rep) M) a
   under-done {a} {i} u h =
-      subst (λ (s : List ℕ). Queued rep s a)
+      subst (λ (s : List ℕ). QueueHolds rep s a)
       (sym (u .rest (M .states) (omega arith) ∙ visit-done (byRep rep) (M .rows) (M .states) i (u .seen) (omega (arith, u .queued .count)))) (u .queued)

@@ -6,7 +6,7 @@ use lib.ListN.{getD}
 use Rattle.machine.specs.Machine.{Table}
 use Rattle.machine.specs.Form.{order}
 use Rattle.layout.specs.Layout.{Opened}
-use Rattle.queue.specs.Queue.{byRep, Listing}
+use Rattle.visit_queue.specs.Queue.{byRep, Listing}
 
 -- The states were visited: where no class was known, the first n entries of O are the states by first visit, and K has the marks of their classes.
 abbrev pub Visits : (I rep J O K : List ℕ) (n : ℕ) → Type 0

@@ -5,15 +5,15 @@ ghost use Prim.Native.Nat.{ℕ, _≤_};
 ghost use lib.ListN.{length, getD};
 ghost use Rattle.text.specs.Limits.{statesMost};
 ghost use Rattle.layout.specs.Layout.{MeantBy};
-ghost use Rattle.queue.specs.Queue.{QueueRoom};
+ghost use Rattle.visit_queue.specs.Queue.{QueueRoom};
 ghost use Rattle.visit.specs.Visiting.{Visits};
 ghost use Rattle.visit.specs.Reaches.{Own, Reaches};
 use layout::STATES;
 use layout::byte;
 use layout::start;
 use layout::wide;
-use queue::meet;
-use queue::meet_rules;
+use visit_queue::meet;
+use visit_queue::meet_rules;
 
 // Visits the states from the initial one on, in order of their numbers, where no class is known yet.
 // The answer is how many states have a number.

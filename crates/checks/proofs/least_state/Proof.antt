@@ -24,14 +24,11 @@ loop-holds c =
     let a = c .before .before .before .args in
     (omega arith, λ M. ap (λ n. least (passesAt (a .number) M (a .marks .now) (a .left .now) (a .right .now)) n 0) (omega arith))
 
-passes-requires : tie.Need-passes-requires Inv-loop μ-loop
-passes-requires c κs = search needs
-
 returns : tie.Need-returns Inv-loop μ-loop
 returns c =
-    let c7 = c .before .before .before .before .before .before .before in
-    let c7 = c7 in
-    let a = c7 .args in
+    let at-entry = c .before .before .before .before .before .before .before in
+    let at-entry = at-entry in
+    let a = at-entry .args in
     let l = c .before .before .before .loop in
     let p = c .before .passes in
     λ M.
@@ -39,17 +36,11 @@ returns c =
     least-here (passesAt (a .number) M (a .marks .now) (a .left .now) (a .right .now)) (a .count) (l .q) (c .before .before .loop-test .taken) failed
     ∙ l .inv .1 M
 
-add-q : tie.Need-add-q Inv-loop μ-loop
-add-q c = search needs
-
-loop-less : tie.Need-loop-less Inv-loop μ-loop
-loop-less c = search needs
-
 loop-again : tie.Need-loop-again Inv-loop μ-loop
 loop-again c =
-    let c7 = c .before .before .before .before .before .before .before in
-    let c7 = c7 in
-    let a = c7 .args in
+    let at-entry = c .before .before .before .before .before .before .before in
+    let at-entry = at-entry in
+    let a = at-entry .args in
     let l = c .before .before .before .loop in
     let p = c .before .passes in (
       omega arith,
@@ -61,9 +52,9 @@ loop-again c =
 
 returns-2 : tie.Need-returns-2 Inv-loop μ-loop
 returns-2 c =
-    let c5 = c .before .before .before .before .before in
-    let c5 = c5 in
-    let a = c5 .args in
+    let at-entry = c .before .before .before .before .before in
+    let at-entry = at-entry in
+    let a = at-entry .args in
     let l = c .before .loop in
     λ M. least-end (passesAt (a .number) M (a .marks .now) (a .left .now) (a .right .now)) (a .count) (l .q) (omega arith) ∙ l .inv .1 M
 
@@ -74,9 +65,9 @@ least-state-spec =
     Inv-loop
     μ-loop
     loop-holds
-    passes-requires
+    (λ c κs. search needs)
     returns
-    add-q
-    loop-less
+    (λ c. search needs)
+    (λ c. search needs)
     loop-again
     returns-2)

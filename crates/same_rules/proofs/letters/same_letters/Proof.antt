@@ -20,32 +20,17 @@ abbrev μ-loop : tie.MeasureT-loop
 returns : tie.Need-returns Inv-loop μ-loop
 returns c = told-no (λ e. c .if1 .taken (ap length e))
 
-loop-holds : tie.Need-loop-holds Inv-loop μ-loop
-loop-holds c = search needs
-
-shared-slice-read-if2 : tie.Need-shared-slice-read-if2 Inv-loop μ-loop
-shared-slice-read-if2 c = search needs
-
-shared-slice-read-if2-2 : tie.Need-shared-slice-read-if2-2 Inv-loop μ-loop
-shared-slice-read-if2-2 c = search needs
-
 returns-2 : tie.Need-returns-2 Inv-loop μ-loop
 returns-2 c =
-    let c4 = c .before .before .before .before in
-    told-no (λ e. c .if2 .taken (ap (λ (l : List ℕ). getD l (c4 .loop .i) 0) e))
-
-add-i : tie.Need-add-i Inv-loop μ-loop
-add-i c = search needs
-
-loop-less : tie.Need-loop-less Inv-loop μ-loop
-loop-less c = search needs
+    let at-loop = c .before .before .before .before in
+    told-no (λ e. c .if2 .taken (ap (λ (l : List ℕ). getD l (at-loop .loop .i) 0) e))
 
 loop-again : tie.Need-loop-again Inv-loop μ-loop
 loop-again c =
-    let c4 = c .before .before .before .before in
-    let c6 = c4 .before .before in
-    let a = c6 .args in
-    let l = c4 .loop in
+    let at-loop = c .before .before .before .before in
+    let at-entry = at-loop .before .before in
+    let a = at-entry .args in
+    let l = at-loop .loop in
     (omega arith, l .inv .1, below-more (λ (k : ℕ). getD (a .a .now) k 0 ≡ getD (a .b .now) k 0) (l .i) (l .inv .2) (c .if2 .left))
 
 returns-3 : tie.Need-returns-3 Inv-loop μ-loop
@@ -61,11 +46,11 @@ same-letters-spec =
     Inv-loop
     μ-loop
     returns
-    loop-holds
-    shared-slice-read-if2
-    shared-slice-read-if2-2
+    (λ c. search needs)
+    (λ c. search needs)
+    (λ c. search needs)
     returns-2
-    add-i
-    loop-less
+    (λ c. search needs)
+    (λ c. search needs)
     loop-again
     returns-3)

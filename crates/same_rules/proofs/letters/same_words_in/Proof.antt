@@ -27,19 +27,19 @@ returns-2 c =
 
 returns-3 : tie.Need-returns-3
 returns-3 c =
-    let c4 = c .before .before .before .before in
-    let c5 = c4 .before in
-    let c6 = c5 .before in
-    let c7 = c6 .before in
-    let c15 = c7 .before .before .before .before .before .before .before .before in
+    let at-number-in = c .before .before .before .before in
+    let at-if2 = at-number-in .before in
+    let at-kids-in2 = at-if2 .before in
+    let at-kids-in = at-kids-in2 .before in
+    let at-entry = at-kids-in .before .before .before .before .before .before .before .before in
     λ M N a b u v.
-    let k = c7 .kids-in .ensures .1 (u .number) (a .rule) (u .holds) in
-    let i = c4 .number-in .ensures .1 (u .number) (a .rule) (u .holds) in
+    let k = at-kids-in .kids-in .ensures .1 (u .number) (a .rule) (u .holds) in
+    let i = at-number-in .number-in .ensures .1 (u .number) (a .rule) (u .holds) in
     let j = c .before .before .number-in2 .ensures .1 (v .number) (b .rule) (v .holds) in
     c .words-from .ensures (a .rule .first) (b .rule .first) (a .rule .rest) (b .rule .rest) (u .opened .bytes) (v .opened .bytes)
-    (c .before .before .before .spot-of .ensures .1 (c15 .args .frames .now) M a (u .opened) (subst (λ (n : ℕ). RowAt M n a) (sym i) (u .row)))
-    (c .before .spot-of2 .ensures .1 (c15 .args .frames2 .now) N b (v .opened) (subst (λ (n : ℕ). RowAt N n b) (sym j) (v .row)))
-    k (c5 .if2 .left ∙ c6 .kids-in2 .ensures .1 (v .number) (b .rule) (v .holds))
+    (c .before .before .before .spot-of .ensures .1 (at-entry .args .frames .now) M a (u .opened) (subst (λ (n : ℕ). RowAt M n a) (sym i) (u .row)))
+    (c .before .spot-of2 .ensures .1 (at-entry .args .frames2 .now) N b (v .opened) (subst (λ (n : ℕ). RowAt N n b) (sym j) (v .row)))
+    k (at-if2 .if2 .left ∙ at-kids-in2 .kids-in2 .ensures .1 (v .number) (b .rule) (v .holds))
 
 pub same-words-in-spec : {M : Type 1} → statement M
 same-words-in-spec =

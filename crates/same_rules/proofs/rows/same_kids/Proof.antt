@@ -7,8 +7,8 @@ use Rattle.same_rules.proofs.rows.same_kids.Tie as tie
 
 returns : tie.Need-returns
 returns c =
-    let c8 = c .before .before .before .before .before .before .before .before in
-    let u = c8 .args in
+    let at-entry = c .before .before .before .before .before .before .before .before in
+    let u = at-entry .args in
     let f = c .before .before .before .symbol-full in
     λ F G M N a o p w l h.
     told-match o p (u .q) (u .r) (f .result) a w (f .ensures .1 F M a o (w .row)) (Alike (u .map .now) (u .map2 .now)) h

@@ -6,19 +6,19 @@ use Rattle.same_rules.proofs.rows.same_shape.Tie as tie
 
 returns : tie.Need-returns
 returns c =
-    let c7 = c .before .before .before .before .before .before .before in
-    let u = c7 .args in
+    let at-entry = c .before .before .before .before .before .before .before in
+    let u = at-entry .args in
     λ M N a o p w l.
     told-none o p (u .q) (u .r) (c .before .before .symbol-full .result) a w (c .before .before .symbol-full .ensures .1 (u .frames .now) M a o (w .row))
     (c .before .kept-full .ensures (u .frames2 .now) N p l) (c .if1 .taken)
 
 returns-2 : tie.Need-returns-2
 returns-2 c =
-    let c4 = c .before .before .before .before in
-    let c9 = c4 .before .before .before .before .before in
-    let u = c9 .args in
+    let at-symbol-full = c .before .before .before .before in
+    let at-entry = at-symbol-full .before .before .before .before .before in
+    let u = at-entry .args in
     λ M N a o p w l.
-    told-shape o p (u .q) (u .r) (c4 .symbol-full .result) a w (c4 .symbol-full .ensures .1 (u .frames .now) M a o (w .row))
+    told-shape o p (u .q) (u .r) (at-symbol-full .symbol-full .result) a w (at-symbol-full .symbol-full .ensures .1 (u .frames .now) M a o (w .row))
     (c .before .kept-full2 .ensures (u .frames .now) M o (row-state o w))
     (c .before .before .before .kept-full .ensures (u .frames2 .now) N p l) (c .before .before .if1 .left)
     (c .same-words-in .ensures M N)
