@@ -8,7 +8,7 @@ use Rattle.machine.specs.Machine.{Table}
 use Rattle.machine.specs.Twins.{Match}
 use Rattle.text.specs.Limits.{statesMost}
 use Rattle.layout.specs.Layout.{numbersSize}
-use Rattle.same_rules.specs.Compared.{Any}
+use Rattle.same_words.specs.Words.{Any}
 
 -- rep puts a and b into one class.
 abbrev pub OneClass : List ℕ → ℕ → ℕ → Type 0

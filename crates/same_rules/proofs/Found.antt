@@ -16,8 +16,9 @@ use Rattle.layout.specs.Layout.{Opened}
 use Rattle.layout.specs.Leaves.{RowAt, rowOf, Holds, Tells, Kept}
 use Rattle.layout.specs.Kids.{Kids}
 use Rattle.layout.proofs.Numbered.{row-fits}
-use Rattle.same_rules.specs.Compared.{Any, RowIn, RowOf}
-use Rattle.same_rules.proofs.Turns.{rests-length}
+use Rattle.same_words.specs.Words.{Any, RowIn}
+use Rattle.same_words.proofs.Turns.{rests-length}
+use Rattle.same_rules.specs.Compared.{RowOf}
 
 -- ---- words and children
 module _ (R : ℕ → ℕ → Type 0) where

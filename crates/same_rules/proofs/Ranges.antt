@@ -14,7 +14,8 @@ use Rattle.machine.specs.Machine.{Rule, Row, Table, Before, Rising, find}
 use Rattle.machine.specs.Twins.{Rules, Match}
 use Rattle.machine.proofs.Find.{every-at, index-row, rising-first, find-index, find-none}
 use Rattle.layout.specs.Leaves.{RulesOf}
-use Rattle.same_rules.specs.Compared.{Any, RowOf}
+use Rattle.same_words.specs.Words.{Any}
+use Rattle.same_rules.specs.Compared.{RowOf}
 use Rattle.same_rules.proofs.Found.{there-too, here-too, row-found}
 
 -- ---- the rows of a state

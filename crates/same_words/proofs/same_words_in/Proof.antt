@@ -3,11 +3,11 @@ use mathlib.Core.Path.{sym, subst, _∙_}
 use Prim.Native.Nat.{ℕ}
 use Rattle.words.proofs.Told.{told-no}
 use Rattle.layout.specs.Leaves.{RowAt}
-use Rattle.same_rules.proofs.Turns.{rests-length, rules-letters}
-use Rattle.same_rules.specs.Compared.{Any}
+use Rattle.same_words.proofs.Turns.{rests-length, rules-letters}
+use Rattle.same_words.specs.Words.{Any}
 use borrow.Author.Needs.{needs}
-use Rattle.same_rules.proofs.letters.same_words_in.Statement.{statement}
-use Rattle.same_rules.proofs.letters.same_words_in.Tie as tie
+use Rattle.same_words.proofs.same_words_in.Statement.{statement}
+use Rattle.same_words.proofs.same_words_in.Tie as tie
 
 returns : tie.Need-returns
 returns c =

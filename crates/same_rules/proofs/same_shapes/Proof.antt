@@ -6,12 +6,13 @@ use Rattle.words.proofs.Told.{told-no}
 use Rattle.machine.specs.Machine.{Row, Table}
 use Rattle.layout.specs.Layout.{Opened}
 use Rattle.layout.specs.Leaves.{RulesOf}
-use Rattle.same_rules.specs.Compared.{Any, RowOf}
+use Rattle.same_words.specs.Words.{Any}
+use Rattle.same_rules.specs.Compared.{RowOf}
 use Rattle.same_rules.proofs.Found.{MatchFor}
 use Rattle.same_rules.proofs.Ranges.{row-numbered, none-passed, all-passed, passed-more, told-ranges}
 use borrow.Author.Needs.{needs}
-use Rattle.same_rules.proofs.rows.same_shapes.Statement.{statement}
-use Rattle.same_rules.proofs.rows.same_shapes.Tie as tie
+use Rattle.same_rules.proofs.same_shapes.Statement.{statement}
+use Rattle.same_rules.proofs.same_shapes.Tie as tie
 
 abbrev Inv-loop : tie.InvT-loop
 Inv-loop frames numbers q mine frames2 numbers2 r i₀ i =

@@ -13,7 +13,7 @@ use Rattle.machine.specs.Machine.{Child, Rule}
 use Rattle.machine.specs.Twins.{Rests}
 use Rattle.layout.specs.Layout.{restLetters, ruleLetters}
 use Rattle.layout.specs.Leaves.{Spot}
-use Rattle.same_rules.specs.Compared.{Any}
+use Rattle.same_words.specs.Words.{Any}
 
 -- What stands at spots a and b, with so many children behind each, decides P.
 pub record WordsLeft (F G : List ℕ) (a b left : ℕ) (P : Type 0) : Type 0 where

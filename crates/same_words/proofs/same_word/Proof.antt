@@ -2,8 +2,8 @@
 use mathlib.Core.Path.{sym, _∙_}
 use Rattle.words.proofs.Told.{told-map}
 use borrow.Author.Needs.{needs}
-use Rattle.same_rules.proofs.letters.same_word.Statement.{statement}
-use Rattle.same_rules.proofs.letters.same_word.Tie as tie
+use Rattle.same_words.proofs.same_word.Statement.{statement}
+use Rattle.same_words.proofs.same_word.Tie as tie
 
 returns : tie.Need-returns
 returns c =

@@ -1,8 +1,8 @@
 -- `same_shape` meets its contract: the rule of r is looked up, and its words are compared.
 use Rattle.same_rules.proofs.Found.{row-state, told-none, told-shape}
 use borrow.Author.Needs.{needs}
-use Rattle.same_rules.proofs.rows.same_shape.Statement.{statement}
-use Rattle.same_rules.proofs.rows.same_shape.Tie as tie
+use Rattle.same_rules.proofs.same_shape.Statement.{statement}
+use Rattle.same_rules.proofs.same_shape.Tie as tie
 
 returns : tie.Need-returns
 returns c =

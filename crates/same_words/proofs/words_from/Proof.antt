@@ -11,11 +11,11 @@ use Rattle.machine.specs.Machine.{Child}
 use Rattle.machine.specs.Twins.{Rests}
 use Rattle.layout.specs.Layout.{framesSize}
 use Rattle.layout.specs.Leaves.{Spot}
-use Rattle.same_rules.specs.Compared.{Any}
-use Rattle.same_rules.proofs.Turns.{WordsLeft, words-next, words-last, words-all}
+use Rattle.same_words.specs.Words.{Any}
+use Rattle.same_words.proofs.Turns.{WordsLeft, words-next, words-last, words-all}
 use borrow.Author.Needs.{needs}
-use Rattle.same_rules.proofs.letters.words_from.Statement.{statement}
-use Rattle.same_rules.proofs.letters.words_from.Tie as tie
+use Rattle.same_words.proofs.words_from.Statement.{statement}
+use Rattle.same_words.proofs.words_from.Tie as tie
 
 abbrev Inv-loop : tie.InvT-loop
 Inv-loop frames p frames2 s kids a₀ b₀ left₀ a b left =

@@ -1,4 +1,5 @@
-// Comparing the words of two rules.
+// Comparing the words of two rules of two opened tables, letter by letter. Nothing is asked of the lent bytes and numbers:
+// each contract speaks of every two tables that they mean, which may be one.
 ghost use mathlib.Core.Path.{_≡_};
 ghost use mathlib.Core.List.{List};
 ghost use mathlib.Core.Option.{some};
@@ -10,7 +11,7 @@ ghost use Rattle.machine.specs.Machine.{Child, Row, Table};
 ghost use Rattle.machine.specs.Twins.{Rests, Rules};
 ghost use Rattle.layout.specs.Layout.{framesSize};
 ghost use Rattle.layout.specs.Leaves.{Spot};
-ghost use Rattle.same_rules.specs.Compared.{Any, RowIn};
+ghost use Rattle.same_words.specs.Words.{Any, RowIn};
 
 // Whether two words are equal.
 fn same_letters(a: &[u8], b: &[u8]) -> bool

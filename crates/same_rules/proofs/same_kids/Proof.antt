@@ -2,8 +2,8 @@
 use Rattle.layout.specs.Kids.{Alike}
 use Rattle.same_rules.proofs.Found.{row-state, told-match}
 use borrow.Author.Needs.{needs}
-use Rattle.same_rules.proofs.rows.same_kids.Statement.{statement}
-use Rattle.same_rules.proofs.rows.same_kids.Tie as tie
+use Rattle.same_rules.proofs.same_kids.Statement.{statement}
+use Rattle.same_rules.proofs.same_kids.Tie as tie
 
 returns : tie.Need-returns
 returns c =

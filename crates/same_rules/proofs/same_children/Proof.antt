@@ -9,12 +9,13 @@ use Rattle.machine.specs.Twins.{Match}
 use Rattle.layout.specs.Layout.{Opened}
 use Rattle.layout.specs.Leaves.{RulesOf}
 use Rattle.layout.specs.Kids.{Alike}
-use Rattle.same_rules.specs.Compared.{Any, RowOf}
+use Rattle.same_words.specs.Words.{Any}
+use Rattle.same_rules.specs.Compared.{RowOf}
 use Rattle.same_rules.proofs.Found.{MatchFor}
 use Rattle.same_rules.proofs.Ranges.{row-numbered, none-passed, all-passed, passed-more, match-rows}
 use borrow.Author.Needs.{needs}
-use Rattle.same_rules.proofs.rows.same_children.Statement.{statement}
-use Rattle.same_rules.proofs.rows.same_children.Tie as tie
+use Rattle.same_rules.proofs.same_children.Statement.{statement}
+use Rattle.same_rules.proofs.same_children.Tie as tie
 
 abbrev Inv-loop : tie.InvT-loop
 Inv-loop numbers map q mine numbers2 map2 r i₀ i =

@@ -8,8 +8,8 @@ use borrow.Author.Count.{below-more}
 use lib.ListN.{length, getD}
 use lib.Seq.{ext-getD}
 use Rattle.words.proofs.Told.{told-yes, told-no}
-use Rattle.same_rules.proofs.letters.same_letters.Statement.{statement}
-use Rattle.same_rules.proofs.letters.same_letters.Tie as tie
+use Rattle.same_words.proofs.same_letters.Statement.{statement}
+use Rattle.same_words.proofs.same_letters.Tie as tie
 
 abbrev Inv-loop : tie.InvT-loop
 Inv-loop a b i₀ i = (i ≤ length a) × (length a ≡ length b) × ((k : ℕ) → k < i → getD a k 0 ≡ getD b k 0)
