@@ -1,12 +1,12 @@
 -- `first_fault` meets its contract. Invariant: the checks from this number on judge what all judge.
 use native.Mathlib.Omega.{arith}
 use borrow.Author.Needs.{needs}
-use mathlib.Core.Path.{_≡_, sym, ap, _∙_}
+use mathlib.Core.Path.{_≡_, _∙_}
 use Prim.Native.Nat.{_-_, _≤_}
 use Rattle.machine.specs.Machine.{Table}
 use Rattle.end_laws.specs.Companion.{judgeBy}
 use Rattle.layout.specs.Layout.{Opened}
-use Rattle.checks.specs.Checks.{placeOf, allChecks}
+use Rattle.checks.specs.Checks.{allChecks}
 use Rattle.verdict.proofs.Order.{upTo, from-first, judge-found, judge-next, judge-end}
 use Rattle.verdict.proofs.first_fault.Statement.{statement}
 use Rattle.verdict.proofs.first_fault.Tie as tie
@@ -34,9 +34,9 @@ returns c =
     let a = at-entry .args in
     let l = at-loop .loop in
     let found = c .before .found .given in
+    let told = c .before .before .before .place-of-fault .ensures in
     λ M o.
-    let place = sym (ap placeOf (found .1)) ∙ c .before .before .before .place-of-fault .ensures M o in
-    judge-found M (a .marks .now) (a .left .now) (a .right .now) (l .number) (at-loop-test .loop-test .taken) (found .0 .0) place ∙ l .inv .2 M o
+    judge-found M (a .marks .now) (a .left .now) (a .right .now) (l .number) (at-loop-test .loop-test .taken) (l .inv .2 M o) (found .0 .0) (found .1) (told M o)
 
 loop-again : tie.Need-loop-again Inv-loop μ-loop
 loop-again c =
@@ -47,8 +47,8 @@ loop-again c =
       omega arith,
       omega arith,
       λ M o.
-          let none = sym (ap placeOf (c .enum-told .given .1)) ∙ c .before .before .place-of-fault .ensures M o in
-          judge-next M (a .marks .now) (a .left .now) (a .right .now) (l .number) (c .before .before .before .loop-test .taken) none ∙ l .inv .2 M o,
+          judge-next M (a .marks .now) (a .left .now) (a .right .now) (l .number) (c .before .before .before .loop-test .taken) (l .inv .2 M o)
+          (c .enum-told .given .1) (c .before .before .place-of-fault .ensures M o),
     )
 
 returns-2 : tie.Need-returns-2 Inv-loop μ-loop

@@ -61,12 +61,11 @@ add-rule-requires : tie.Need-add-rule-requires Inv-loop μ-loop
 add-rule-requires c κs =
     let at-loop = c .before .before .before .before in
     let at-if1 = at-loop .before .before in
-    let c10 = at-if1 .before .before .before .before in (
-      c10 .pre .0,
+    let at-entry = at-if1 .before .before .before .before in (
+      at-entry .pre .0,
       omega (arith, at-loop .loop .inv .0, c .before .before .before .loop-test .taken),
       omega (arith, at-if1 .if1 .left),
-      at-loop .loop .inv .2 .long
-          ∙ c10 .pre .1,
+      at-loop .loop .inv .2 .long ∙ at-entry .pre .1,
     )
 
 add-k : tie.Need-add-k Inv-loop μ-loop
