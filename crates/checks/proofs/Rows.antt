@@ -66,7 +66,7 @@ freeAt M xs i = freeRow (K xs) (getElem? (M .rows) i)
 
 -- The test of rule number i, where there is one.
 pub row-test : (M : Table) (xs : List ℕ) (i : ℕ) (b : Bool) → i < length (M .rows) → ((row : Row) → RowAt M i row → b ≡ free (K xs) (row .rule .rest))
-    → freeAt M xs i ≡ b
+    → b ≡ freeAt M xs i
 row-test M xs i b l h =
     let r = index-row (M .rows) i l in
-    ap (λ (o : Option Row). freeRow (K xs) o) (r .1) ∙ sym (h (r .0) (r .1))
+    h (r .0) (r .1) ∙ sym (ap (λ (o : Option Row). freeRow (K xs) o) (r .1))

@@ -1,9 +1,8 @@
 -- `place_of_fault` meets its contract, number by number.
 use native.Mathlib.Omega.{arith}
 use mathlib.Core.Path.{sym, ap, _∙_}
-use Rattle.end_laws.specs.Companion.{least}
-use Rattle.checks.specs.Checks.{passesAt, leastAt}
-use Rattle.checks.proofs.Tests.{places-states, least-none}
+use Rattle.checks.specs.Checks.{leastAt}
+use Rattle.checks.proofs.Tests.{least-states, least-none}
 use borrow.Author.Needs.{needs}
 use Rattle.checks.proofs.place_of_fault.Statement.{statement}
 use Rattle.checks.proofs.place_of_fault.Tie as tie
@@ -25,8 +24,8 @@ returns-3 c =
     let at-entry = c .before .before .before .before .before .before .before .before .before .before in
     let a = at-entry .args in
     λ M o.
-    let places = c .before .states .ensures .1 (a .frames .now) M o ∙ sym (places-states (a .number) M (omega arith) (omega arith)) in
-    c .least-state .ensures M ∙ ap (λ n. least (passesAt (a .number) M (a .marks .now) (a .left .now) (a .right .now)) n 0) places
+    least-states (a .number) (c .before .states .result) M (a .marks .now) (a .left .now) (a .right .now) (omega arith) (omega arith)
+    (c .before .states .ensures .1 (a .frames .now) M o) (c .least-state .ensures M)
 
 returns-4 : tie.Need-returns-4
 returns-4 c =

@@ -17,7 +17,6 @@ returns-3 c = front-first (c .before .before .before .args .x) (c .before .befor
 returns-4 : tie.Need-returns-4
 returns-4 c =
     let at-if1 = c .before .before .before .before in
-    let at-if1 = at-if1 in
     let at-entry = at-if1 .before in
     let a = at-entry .args in
     front-second (a .x) (a .y) (at-if1 .if1 .left) (c .before .before .before .if2 .left) (c .before .letters-joined .result)
@@ -26,7 +25,6 @@ returns-4 c =
 returns-5 : tie.Need-returns-5
 returns-5 c =
     let at-if1 = c .before .before .before .before in
-    let at-if1 = at-if1 in
     let at-entry = at-if1 .before in
     let a = at-entry .args in
     front-blank (a .x) (a .y) (at-if1 .if1 .left) (c .before .before .before .if2 .left) (c .before .letters-joined .result)

@@ -36,7 +36,8 @@ returns c =
     let found = c .before .found .given in
     let told = c .before .before .before .place-of-fault .ensures in
     λ M o.
-    judge-found M (a .marks .now) (a .left .now) (a .right .now) (l .number) (at-loop-test .loop-test .taken) (l .inv .2 M o) (found .0 .0) (found .1) (told M o)
+    judge-found M (a .marks .now) (a .left .now) (a .right .now) (l .number) (at-loop-test .loop-test .taken) (l .inv .2 M o)
+    (found .0 .0) (found .1) (told M o)
 
 loop-again : tie.Need-loop-again Inv-loop μ-loop
 loop-again c =

@@ -51,8 +51,8 @@ returns-2 c =
     λ M o.
     let v = l .inv .2 M o in
     let test = row-test M xs (l .i) (f .result) (omega (arith, v .0, c .before .before .loop-test .taken)) (λ row e. f .ensures M row o e) in
-    least-here (freeAt M xs) n (l .i) (c .before .before .loop-test .taken) (test ∙ not-true _ (c .if2 .taken)) ∙ v .1 ∙ ap
-    (λ k. least (freeAt M xs) k 0) (v .0)
+    let whole = v .1 ∙ ap (λ k. least (freeAt M xs) k 0) (v .0) in
+    least-here (freeAt M xs) n (l .i) whole (c .before .before .loop-test .taken) test (not-true _ (c .if2 .taken))
 
 loop-again : tie.Need-loop-again Inv-loop μ-loop
 loop-again c =
@@ -67,7 +67,7 @@ loop-again c =
       λ M o.
           let v = l .inv .2 M o in
           let test = row-test M xs (l .i) (f .result) (omega (arith, v .0, c .before .before .loop-test .taken)) (λ row e. f .ensures M row o e) in
-          (v .0, least-on (freeAt M xs) n (l .i) (c .before .before .loop-test .taken) (test ∙ not-false _ (c .if2 .left)) ∙ v .1),
+          (v .0, least-on (freeAt M xs) n (l .i) (v .1) (c .before .before .loop-test .taken) test (not-false _ (c .if2 .left))),
     )
 
 returns-3 : tie.Need-returns-3 Inv-loop μ-loop
@@ -77,7 +77,8 @@ returns-3 c =
     let l = c .before .loop in
     λ M o.
     let v = l .inv .2 M o in
-    least-end (freeAt M xs) (c .before .before .rules .result) (l .i) (c .loop-test .left) ∙ v .1 ∙ ap (λ n. least (freeAt M xs) n 0) (v .0)
+    let whole = v .1 ∙ ap (λ n. least (freeAt M xs) n 0) (v .0) in
+    least-end (freeAt M xs) (c .before .before .rules .result) (l .i) whole (c .loop-test .left)
 
 pub least-rule-spec : {M : Type 1} → statement M
 least-rule-spec =

@@ -28,7 +28,6 @@ returns c =
 loop-again : tie.Need-loop-again Inv-loop μ-loop
 loop-again c =
     let at-loop = c .before .before .before .before in
-    let at-loop = at-loop in
     let at-entry = at-loop .before .before in
     let l = at-loop .loop in
     let xs : List ℕ = at-entry .args .left .now in
