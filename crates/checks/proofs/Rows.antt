@@ -16,7 +16,7 @@ use Rattle.summary.specs.Codes.{K}
 use Rattle.layout.proofs.Ahead.{Ahead, Next}
 
 -- On the way through the children cs: the word at spot p has m letters, and the children that are left tell what all tell.
-pub record Rest (F xs : List ℕ) (p m n : ℕ) (cs : List Child) : Type 0 where
+pub record ChildrenLeft (F xs : List ℕ) (p m n : ℕ) (cs : List Child) : Type 0 where
   pub word : Word
   pub long : m ≡ length word
   pub rest : List Child
@@ -25,30 +25,30 @@ pub record Rest (F xs : List ℕ) (p m n : ℕ) (cs : List Child) : Type 0 where
 
 module _ (xs : List ℕ) where
   -- All children are left.
-  pub rest-begun : {F : List ℕ} {u : Word} {p m n : ℕ} {cs : List Child} → Ahead F u p n cs → m ≡ length u → Rest F xs p m n cs
-  rest-begun {u = u} {cs = cs} a l = record { word = u; long = l; rest = cs; ahead = a; same = refl }
+  pub children-begun : {F : List ℕ} {u : Word} {p m n : ℕ} {cs : List Child} → Ahead F u p n cs → m ≡ length u → ChildrenLeft F xs p m n cs
+  children-begun {u = u} {cs = cs} a l = record { word = u; long = l; rest = cs; ahead = a; same = refl }
 
-  module _ {F : List ℕ} {p m n : ℕ} {cs : List Child} (l : Rest F xs p m n cs) where
+  module _ {F : List ℕ} {p m n : ℕ} {cs : List Child} (l : ChildrenLeft F xs p m n cs) where
     -- No child is left.
-    pub rest-done : l .rest ≡ [] → true ≡ free (K xs) cs
-    rest-done e = sym (ap (free (K xs)) e) ∙ l .same
+    pub children-done : l .rest ≡ [] → true ≡ free (K xs) cs
+    children-done e = sym (ap (free (K xs)) e) ∙ l .same
 
     module _ {q s j : ℕ} (t : Next F q s j (l .rest)) (b : Bool) (test : b ≡ stuck (K xs q) (t .child .after)) where
       -- The next child's test, and then the others.
-      rest-next : not b && free (K xs) (t .rest) ≡ free (K xs) cs
-      rest-next =
+      children-next : not b && free (K xs) (t .rest) ≡ free (K xs) cs
+      children-next =
           ap (λ x. not x && free (K xs) (t .rest)) (test ∙ ap (λ k. stuck (K xs k) (t .child .after)) (t .state))
           ∙ sym (ap (free (K xs)) (t .first)) ∙ l .same
 
       -- A child behind which no word can be pushed is passed over.
-      pub rest-more : {k : ℕ} → k ≡ length (t .child .after) → b ≡ false → Rest F xs s k j cs
-      rest-more long e =
-          let same = sym (ap (λ x. not x && free (K xs) (t .rest)) e) ∙ rest-next in
+      pub children-more : {k : ℕ} → k ≡ length (t .child .after) → b ≡ false → ChildrenLeft F xs s k j cs
+      children-more long e =
+          let same = sym (ap (λ x. not x && free (K xs) (t .rest)) e) ∙ children-next in
           record { word = t .child .after; long = long; rest = t .rest; ahead = t .ahead; same = same }
 
       -- A child behind which a word can be pushed.
-      pub rest-stuck : b ≡ true → false ≡ free (K xs) cs
-      rest-stuck e = sym (ap (λ x. not x && free (K xs) (t .rest)) e) ∙ rest-next
+      pub children-stuck : b ≡ true → false ≡ free (K xs) cs
+      children-stuck e = sym (ap (λ x. not x && free (K xs) (t .rest)) e) ∙ children-next
 
 -- The word at a spot, by its letter: whether it can be pushed.
 pub stuck-none : (x : Ends) (u : Word) (n : ℕ) → n ≡ length u → n ≡ 0 → false ≡ stuck x u
@@ -66,7 +66,7 @@ freeAt M xs i = freeRow (K xs) (getElem? (M .rows) i)
 
 -- The test of rule number i, where there is one.
 pub row-test : (M : Table) (xs : List ℕ) (i : ℕ) (b : Bool) → i < length (M .rows) → ((row : Row) → RowAt M i row → b ≡ free (K xs) (row .rule .rest))
-    → freeAt M xs i ≡ b
+    → b ≡ freeAt M xs i
 row-test M xs i b l h =
     let r = index-row (M .rows) i l in
-    ap (λ (o : Option Row). freeRow (K xs) o) (r .1) ∙ sym (h (r .0) (r .1))
+    h (r .0) (r .1) ∙ sym (ap (λ (o : Option Row). freeRow (K xs) o) (r .1))

@@ -52,7 +52,7 @@ byTests s t u v w z a b c d e f other =
     ]
 
 -- A number that is none of 13 to 18.
-pub by-none : {A : Type 0} (n : ℕ) (a b c d e f o : A) → (n ≡ 13 → ⊥) → (n ≡ 14 → ⊥) → (n ≡ 15 → ⊥) → (n ≡ 16 → ⊥) → (n ≡ 17 → ⊥) → (n ≡ 18 → ⊥)
+by-none : {A : Type 0} (n : ℕ) (a b c d e f o : A) → (n ≡ 13 → ⊥) → (n ≡ 14 → ⊥) → (n ≡ 15 → ⊥) → (n ≡ 16 → ⊥) → (n ≡ 17 → ⊥) → (n ≡ 18 → ⊥)
     → byNumber n a b c d e f o ≡ o
 by-none n a b c d e f o i j k l m h =
     ap (λ x. byTests x (eqb n 14) (eqb n 15) (eqb n 16) (eqb n 17) (eqb n 18) a b c d e f o) (ne-eqb n 13 i)
@@ -83,21 +83,24 @@ module _ (test : ℕ → Bool) (n : ℕ) where
       more : n - i ≡ suc (n - (i + 1))
       more = omega arith
 
-  -- A place that passes is passed over.
-  pub least-on : (i : ℕ) → i < n → test i ≡ true → least test (n - (i + 1)) (i + 1) ≡ least test (n - i) i
-  least-on i l e = ap (least test (n - (i + 1))) (add-one i) ∙ sym (least-one i l ∙ ap (λ t. searched t (n - (i + 1)) i) e)
+  -- What the search from i on finds, where b is the test of place i.
+  module _ {o : Option ℕ} (i : ℕ) (found : least test (n - i) i ≡ o) where
+    -- A place that passes is passed over.
+    pub least-on : {b : Bool} → i < n → b ≡ test i → b ≡ true → least test (n - (i + 1)) (i + 1) ≡ o
+    least-on l e t =
+        ap (least test (n - (i + 1))) (add-one i) ∙ sym (least-one i l ∙ ap (λ t. searched t (n - (i + 1)) i) (sym e ∙ t)) ∙ found
 
-  -- A place that does not pass is found.
-  pub least-here : (i : ℕ) → i < n → test i ≡ false → some i ≡ least test (n - i) i
-  least-here i l e = sym (least-one i l ∙ ap (λ t. searched t (n - (i + 1)) i) e)
+    -- A place that does not pass is found.
+    pub least-here : {b : Bool} → i < n → b ≡ test i → b ≡ false → some i ≡ o
+    least-here l e t = sym (least-one i l ∙ ap (λ t. searched t (n - (i + 1)) i) (sym e ∙ t)) ∙ found
 
-  -- No place is left.
-  pub least-end : (i : ℕ) → n ≤ i → none ≡ least test (n - i) i
-  unfolding least
-  least-end i l = sym (ap (λ k. least test k i) none-left)
-    where
-      none-left : n - i ≡ 0
-      none-left = omega arith
+    -- No place is left.
+    pub least-end : n ≤ i → none ≡ o
+    unfolding least
+    least-end l = sym (ap (λ k. least test k i) none-left) ∙ found
+      where
+        none-left : n - i ≡ 0
+        none-left = omega arith
 
 -- ---- the initial rule
 -- Its last word is empty.
@@ -123,8 +126,8 @@ unfolding least
 start-free b e = sym (ap (λ t. least (λ p. not t) 1 0) e)
 
 -- ---- the places of a check
--- Mhe places of the checks 13 to 16 are the states.
-pub places-states : (n : ℕ) (M : Table) → 13 ≤ n → n ≤ 16 → placesAt n M ≡ M .states
+-- The places of the checks 13 to 16 are the states.
+places-states : (n : ℕ) (M : Table) → 13 ≤ n → n ≤ 16 → placesAt n M ≡ M .states
 places-states n M l h = elim (ℕ-discrete n 13) [
   | yes e ↦ ap (λ k. placesAt k M) e
   | no a ↦ elim (ℕ-discrete n 14) [
@@ -138,6 +141,11 @@ places-states n M l h = elim (ℕ-discrete n 13) [
   where
     last : n ≡ 16 → placesAt n M ≡ M .states
     last e = ap (λ k. placesAt k M) e
+
+-- What the search over the states finds is the least place of such a check.
+pub least-states : {o : Option ℕ} (n k : ℕ) (M : Table) (m xs ys : List ℕ) → 13 ≤ n → n ≤ 16 → k ≡ M .states → o ≡ least (passesAt n M m xs ys) k 0
+    → o ≡ leastAt n M m xs ys
+least-states n k M m xs ys l h e found = found ∙ ap (λ j. least (passesAt n M m xs ys) j 0) (e ∙ sym (places-states n M l h))
 
 -- A number that is none of 13 to 18 has no place.
 pub least-none : (n : ℕ) (M : Table) (m xs ys : List ℕ) → (n ≡ 13 → ⊥) → (n ≡ 14 → ⊥) → (n ≡ 15 → ⊥) → (n ≡ 16 → ⊥) → (n ≡ 17 → ⊥) → (n ≡ 18 → ⊥)

@@ -56,7 +56,8 @@ fn least_state(number: u8, count: usize, marks: &[u8], left: &[u16], right: &[u1
 
 // The initial rule, if its last word can be pushed to the left of its state.
 fn start_fault(frames: &[u8], numbers: &[u64], left: &[u16]) -> Fault
-    ensures { λ r. ⌜ Meant (now (frames .entry)) (now (numbers .entry)) (λ M. placeOf r ≡ least (λ p. not (stuck (K (now (left .entry)) (M .start)) (M .after))) 1 0) ⌝ }
+    ensures { λ r. ⌜ Meant (now (frames .entry)) (now (numbers .entry)) (λ M. placeOf r
+        ≡ least (λ p. not (stuck (K (now (left .entry)) (M .start)) (M .after))) 1 0) ⌝ }
 {
     let word = word_after(frames, numbers);
     if word.len() == 0 {
@@ -79,7 +80,8 @@ pub fn place_of_fault(
     right: &[u16],
 ) -> Fault
     requires { ⌜ length (now numbers) ≡ numbersSize ⌝ }
-    ensures { λ r. ⌜ Meant (now (frames .entry)) (now (numbers .entry)) (λ M. placeOf r ≡ leastAt number M (now (marks .entry)) (now (left .entry)) (now (right .entry))) ⌝ }
+    ensures { λ r. ⌜ Meant (now (frames .entry)) (now (numbers .entry)) (λ M. placeOf r
+        ≡ leastAt number M (now (marks .entry)) (now (left .entry)) (now (right .entry))) ⌝ }
 {
     match number {
         13..=16 => least_state(number, states(numbers), marks, left, right),

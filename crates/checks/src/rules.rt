@@ -77,7 +77,8 @@ fn some_narrow(left: &[u16]) -> bool
 // The least rule with a word that can be pushed to the left of the state before it.
 pub fn least_rule(frames: &[u8], numbers: &[u64], left: &[u16]) -> Fault
     requires { ⌜ length (now numbers) ≡ numbersSize ⌝ }
-    ensures { λ r. ⌜ Meant (now (frames .entry)) (now (numbers .entry)) (λ M. placeOf r ≡ least (λ i. freeRow (K (now (left .entry))) (getElem? (M .rows) i)) (length (M .rows)) 0) ⌝ }
+    ensures { λ r. ⌜ Meant (now (frames .entry)) (now (numbers .entry)) (λ M. placeOf r
+        ≡ least (λ i. freeRow (K (now (left .entry))) (getElem? (M .rows) i)) (length (M .rows)) 0) ⌝ }
 {
     if !some_narrow(left) {
         return Fault::Nowhere;

@@ -13,8 +13,9 @@ use Rattle.machine.proofs.Agreement.{agree}
 use Rattle.machine.proofs.Kept.{rules-map, kept-twin, twin-same}
 use Rattle.machine.proofs.Twins.{Two, match-two}
 use Rattle.classes.specs.Classes.{Classes, Twins, TwinClasses}
-use Rattle.classes.specs.Rounds.{Alike, Paired, Shapes, Least, Rounded, Adopted}
-use Rattle.classes.proofs.Pairs.{paired-refl, least-same, same-least}
+use Rattle.class_round.specs.Round.{OneClass, Paired, Shapes, LeastOf, Rounded}
+use Rattle.classes.specs.Taking.{Adopted}
+use Rattle.class_round.proofs.Pairs.{paired-refl, least-same, same-least}
 
 -- Where states with the same words have matching rules, they are the twins: so classes of twins are classes of these.
 pub kept-classes : {M : Table} {rep : List ℕ} → RulesKeep M M (Same M M) → TwinClasses M rep → Classes M rep
@@ -38,7 +39,7 @@ twin-less M (suc k) q r h =
 
 -- After some number of rounds: twins by that many are in one class.
 abbrev pub Together : Table → List ℕ → Type 0
-Together M rep = (k : ℕ) × ((q r : ℕ) → q < M .states → r < M .states → Twin M M k q r → Alike rep q r)
+Together M rep = (k : ℕ) × ((q r : ℕ) → q < M .states → r < M .states → Twin M M k q r → OneClass rep q r)
 
 -- All in one class.
 pub together-none : (M : Table) (rep : List ℕ) → ((q : ℕ) → getD rep q 0 ≡ 0) → Together M rep
@@ -48,20 +49,20 @@ together-none M rep z = (zero, λ q r hq hr e. z q ∙ sym (z r))
 pub shapes-more : (M : Table) {n k : ℕ} {rep next rep′ : List ℕ} → Rounded M n rep next → Adopted n next rep rep′ k → Shapes M n rep′
 shapes-more M {rep = rep} w a q r hq hr h f =
     let p = same-least M rep (w q hq) (w r hr) (sym (a .taken q hq) ∙ h ∙ a .taken r hr) in
-    rules-map (Alike rep) (λ b c. Unit {0}) (λ b c g. tt) (find (M .rows) q f) (find (M .rows) r f) (p .rows f)
+    rules-map (OneClass rep) (λ b c. Unit {0}) (λ b c g. tt) (find (M .rows) q f) (find (M .rows) r f) (p .rows f)
 
 module _ {M : Table} {n j : ℕ} {rep next rep′ : List ℕ} (W : WellMade M) (e : n ≡ M .states) (t : Together M rep) (w : Rounded M n rep next)
     (a : Adopted n next rep rep′ j) where
   -- A state's number after the round is the least state that the round leaves with it.
-  numbers : (q : ℕ) → q < M .states → Least (Paired M rep q) (getD rep′ q 0)
+  numbers : (q : ℕ) → q < M .states → LeastOf (Paired M rep q) (getD rep′ q 0)
   numbers q h =
       let l : q < n = omega arith in
-      subst (λ (x : ℕ). Least (Paired M rep q) x) (sym (a .taken q l)) (w q l)
+      subst (λ (x : ℕ). LeastOf (Paired M rep q) x) (sym (a .taken q l)) (w q l)
 
   -- Rows of twins by one round more match up to the classes.
-  together-rows : (q r : ℕ) → Twin M M (suc (t .0)) q r → Match M M (Alike rep) q r
+  together-rows : (q r : ℕ) → Twin M M (suc (t .0)) q r → Match M M (OneClass rep) q r
   together-rows q r h f =
-      rules-map (Two M M (Twin M M (t .0))) (Alike rep) (λ b c g. t .1 b c (g .0) (g .1) (g .2)) (find (M .rows) q f) (find (M .rows) r f)
+      rules-map (Two M M (Twin M M (t .0))) (OneClass rep) (λ b c g. t .1 b c (g .0) (g .1) (g .2)) (find (M .rows) q f) (find (M .rows) r f)
       (match-two M M (Twin M M (t .0)) W W q r h f)
 
   -- The round parts none of these.
@@ -73,19 +74,19 @@ module _ {M : Table} {n j : ℕ} {rep next rep′ : List ℕ} (W : WellMade M) (
   )
 
   -- Where the round changed nothing, states in one class have rows that match up to the classes, so they are twins.
-  settled-twins : rep′ ≡ rep → (q r : ℕ) → q < M .states → r < M .states → Alike rep q r → Twins M q r
+  settled-twins : rep′ ≡ rep → (q r : ℕ) → q < M .states → r < M .states → OneClass rep q r → Twins M q r
   settled-twins d q r hq hr b k =
-      kept-twin M M (Two M M (Alike rep))
+      kept-twin M M (Two M M (OneClass rep))
       (λ p s g.
-      let same = subst (λ (m : List ℕ). Alike m p s) (sym d) (g .2) in
-      match-two M M (Alike rep) W W p s (same-least M rep (numbers p (g .0)) (numbers s (g .1)) same .rows))
+      let same = subst (λ (m : List ℕ). OneClass m p s) (sym d) (g .2) in
+      match-two M M (OneClass rep) W W p s (same-least M rep (numbers p (g .0)) (numbers s (g .1)) same .rows))
       k q r (hq, hr, b)
 
   -- Then the classes are those of the twins.
   pub settled : rep′ ≡ rep → TwinClasses M rep′
   settled d =
       record {
-        twins = λ q r hq hr. subst (λ (m : List ℕ). (Alike m q r) ↔ Twins M q r) (sym d) (settled-twins d q r hq hr, λ h. t .1 q r hq hr (h (t .0)));
+        twins = λ q r hq hr. subst (λ (m : List ℕ). (OneClass m q r) ↔ Twins M q r) (sym d) (settled-twins d q r hq hr, λ h. t .1 q r hq hr (h (t .0)));
         member = λ q hq.
             let l = numbers q hq in
             let low = l .least q (paired-refl M rep q) in

@@ -3,25 +3,15 @@ use mathlib.Core.Path.{_≡_, refl, sym, ap, subst, _∙_}
 use mathlib.Core.List.{List, [], _∷_}
 use Prim.Native.Nat.{ℕ, zero, suc, _+_, _*_, _<_, _≤_}
 use native.Mathlib.Nat.{not-suc-le-zero, le-of-suc-le-suc}
-use native.Mathlib.Decide.{ℕ-discrete, decLt}
+use native.Mathlib.Decide.{decLt}
 use native.Mathlib.Omega.{arith}
 use lib.ListN.{length, getD, set, length-set, List·getD-eq-default}
 use lib.Seq.{getD-set-same, getD-set-other, set-getD}
 use Rattle.text.specs.Limits.{statesMost}
-use Rattle.classes.specs.Classes.{Numbered}
-use Rattle.classes.specs.Rounds.{Low, Raised, slack, Put, Adopted}
-
--- A number is another one or not.
-pub same-or : {P : Type 0} (p q : ℕ) → (p ≡ q → P) → ((p ≡ q → ⊥) → P) → P
-same-or p q a b = elim (ℕ-discrete p q) [ yes e ↦ a e | no n ↦ b n ]
-
--- What holds of the entries below q holds below q + 1 after a store at q of what holds there.
-pub set-below : (P : ℕ → ℕ → Type 0) (m : List ℕ) (q v : ℕ) → q < length m → ((p : ℕ) → p < q → P p (getD m p 0)) → P q v
-    → (p : ℕ) → p < q + 1 → P p (getD (set m q v) p 0)
-set-below P m q v h old new p l =
-    same-or p q
-    (λ e. subst (λ (x : ℕ). P x (getD (set m q v) x 0)) (sym e) (subst (P q) (sym (getD-set-same m q v 0 h)) new))
-    (λ ne. subst (P p) (sym (getD-set-other m q p v 0 ne)) (old p (omega arith)))
+use Rattle.classes.specs.Classes.{ClassNumbers}
+use Rattle.class_round.specs.Round.{Low, NumbersRaised}
+use Rattle.class_round.proofs.Stores.{same-or}
+use Rattle.classes.specs.Taking.{slack, ClassPut, Adopted}
 
 -- Entries that are 0 wherever there is one are 0 everywhere.
 pub zeros-all : (m : List ℕ) → ((q : ℕ) → q < length m → getD m q 0 ≡ 0) → (q : ℕ) → getD m q 0 ≡ 0
@@ -43,7 +33,7 @@ slack-set (x ∷ m) zero v h l w = omega arith
 slack-set (x ∷ m) (suc q) v h l w = omega (arith, slack-set m q v (le-of-suc-le-suc h) l w)
 
 -- A number that was not there before is stored.
-pub put-one : (m : List ℕ) (q v k : ℕ) → q < length m → getD m q 0 ≤ v → v ≤ statesMost → (getD m q 0 ≡ v → ⊥) → k ≡ 1 → Put m q v (set m q v) k
+pub put-one : (m : List ℕ) (q v k : ℕ) → q < length m → getD m q 0 ≤ v → v ≤ statesMost → (getD m q 0 ≡ v → ⊥) → k ≡ 1 → ClassPut m q v (set m q v) k
 put-one m q v k h l w ne e =
     record {
       long = length-set m q v;
@@ -54,7 +44,7 @@ put-one m q v k h l w ne e =
     }
 
 -- A number that was there before is stored.
-pub put-none : (m : List ℕ) (q v k : ℕ) → q < length m → getD m q 0 ≡ v → k ≡ 0 → Put m q v (set m q v) k
+pub put-none : (m : List ℕ) (q v k : ℕ) → q < length m → getD m q 0 ≡ v → k ≡ 0 → ClassPut m q v (set m q v) k
 put-none m q v k h d e =
     let same : set m q v ≡ m = ap (λ (x : ℕ). set m q x) (sym d) ∙ set-getD m q 0 in
     record {
@@ -70,7 +60,7 @@ pub adopted-none : (next m : List ℕ) → Adopted 0 next m m 0
 adopted-none next m = record { long = refl; taken = λ q h. absurd (omega arith); rest = λ q h. refl; fewer = omega arith; still = λ e. refl }
 
 -- One entry more.
-pub adopted-more : {q k r : ℕ} {next m₀ m m′ : List ℕ} → Adopted q next m₀ m k → Put m q (getD next q 0) m′ r → Adopted (q + 1) next m₀ m′ (k + r)
+pub adopted-more : {q k r : ℕ} {next m₀ m m′ : List ℕ} → Adopted q next m₀ m k → ClassPut m q (getD next q 0) m′ r → Adopted (q + 1) next m₀ m′ (k + r)
 adopted-more {q} {k} {r} {next} {m₀} {m} {m′} a d =
     record {
       long = d .long ∙ a .long;
@@ -81,7 +71,7 @@ adopted-more {q} {k} {r} {next} {m₀} {m} {m′} a d =
     }
 
 -- Numbers that a round raised are still at most their states.
-pub adopted-low : {n k : ℕ} {next m m′ : List ℕ} → Adopted n next m m′ k → Low m → Raised n m next → Low m′
+pub adopted-low : {n k : ℕ} {next m m′ : List ℕ} → Adopted n next m m′ k → Low m → NumbersRaised n m next → Low m′
 adopted-low {n} {k} {next} {m} {m′} a l w q = go (decLt q n)
   where
     go : Dec (q < n) → getD m′ q 0 ≤ q
@@ -89,7 +79,7 @@ adopted-low {n} {k} {next} {m} {m′} a l w q = go (decLt q n)
     go (no h) = omega (arith, a .rest q (omega arith), l q)
 
 -- A number for each state.
-pub numbered : (m : List ℕ) → length m ≡ statesMost → Low m → Numbered m
+pub numbered : (m : List ℕ) → length m ≡ statesMost → Low m → ClassNumbers m
 numbered m e l = record { long = e; low = l; below = λ q. go q (decLt q statesMost) }
   where
     go : (q : ℕ) → Dec (q < statesMost) → getD m q 0 < statesMost

@@ -25,7 +25,7 @@ pub record Classes (M : Table) (rep : List ℕ) : Type 0 where
   pub member : (q : ℕ) → q < M .states → Same M M q (getD rep q 0)
 
 -- Whatever the bytes are: a number for each state that a table may have, each at most the state, so below the most states.
-pub record Numbered (rep : List ℕ) : Type 0 where
+pub record ClassNumbers (rep : List ℕ) : Type 0 where
   pub long : length rep ≡ statesMost
   pub low : (q : ℕ) → getD rep q 0 ≤ q
   pub below : (q : ℕ) → getD rep q 0 < statesMost

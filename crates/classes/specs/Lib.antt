@@ -1,3 +1,3 @@
--- Classes of twins and of states with the same words, and the rounds that find them.
+-- Classes of twins and of states with the same words, and how a round's numbers are taken over.
 pub mod Classes
-pub mod Rounds
+pub mod Taking

@@ -16,7 +16,7 @@ use Rattle.summary.specs.Grown.{Grown}
 use Rattle.summary.proofs.Codes.{nothing-known}
 use Rattle.summary.proofs.Tests.{blank-alone}
 use Rattle.summary.proofs.Growing.{grown-one}
-use Rattle.empty_words.specs.Blank.{Blanks, EmptyTold, BlankOf, Marked, Among, AllListed}
+use Rattle.empty_words.specs.Blank.{Blanks, EmptyTold, BlankOf, BlanksMarked, ListedBetween, AllListed}
 use Rattle.empty_words.proofs.Empty.{rule-held, blanks-set, kept-told}
 
 -- 1024 in place of nothing is one more that is known.
@@ -28,17 +28,18 @@ grown-blank xs q l z = grown-one xs q 1024 1024 0 1 l (sym (ap (λ x. join x (de
 
 module _ {M : Table} where
   -- Nothing was done, and nothing was to be done.
-  pub marked-none : {tried : ℕ → Type 0} (xs : List ℕ) → ((p : ℕ) → p < statesMost → tried p → BlankOf M xs p → getD xs p 0 ≡ 0 → ⊥) → Marked M tried xs xs 0
+  pub marked-none : {tried : ℕ → Type 0} (xs : List ℕ) → ((p : ℕ) → p < statesMost → tried p → BlankOf M xs p → getD xs p 0 ≡ 0 → ⊥)
+      → BlanksMarked M tried xs xs 0
   marked-none xs h = record { keeps = λ B. B; same = λ e. refl; rests = λ e. h }
 
   -- 1024 is kept for a state by one of its rules.
-  pub marked-one : {tried : ℕ → Type 0} (xs : List ℕ) (q : ℕ) → q < length xs → Rising (M .rows) → BlankOf M xs q → Marked M tried xs (set xs q 1024) 1
+  pub marked-one : {tried : ℕ → Type 0} (xs : List ℕ) (q : ℕ) → q < length xs → Rising (M .rows) → BlankOf M xs q → BlanksMarked M tried xs (set xs q 1024) 1
   marked-one xs q l rising b =
       record { keeps = λ B. blanks-set M xs B q l (rule-held M xs B rising q b); same = λ e. absurd (omega arith); rests = λ e. absurd (omega arith) }
 
   -- One after the other.
-  pub marked-then : {this that all : ℕ → Type 0} {xs ys zs : List ℕ} {k j : ℕ} → Marked M this xs ys k → Marked M that ys zs j
-      → ((p : ℕ) → all p → this p ⊎ that p) → Marked M all xs zs (k + j)
+  marked-then : {this that all : ℕ → Type 0} {xs ys zs : List ℕ} {k j : ℕ} → BlanksMarked M this xs ys k → BlanksMarked M that ys zs j
+      → ((p : ℕ) → all p → this p ⊎ that p) → BlanksMarked M all xs zs (k + j)
   marked-then s t split =
       record {
         keeps = λ B. t .keeps (s .keeps B);
@@ -49,25 +50,26 @@ module _ {M : Table} where
       }
 
   -- No state is tried yet.
-  pub among-none : (O xs : List ℕ) (m : ℕ) → Marked M (Among O m m) xs xs 0
-  among-none O xs m = marked-none xs (λ p h a. absurd (omega (arith, a .1, a .2)))
+  pub between-none : (O xs : List ℕ) (m : ℕ) → BlanksMarked M (ListedBetween O m m) xs xs 0
+  between-none O xs m = marked-none xs (λ p h a. absurd (omega (arith, a .1, a .2)))
 
   -- One state more.
-  pub among-more : (O : List ℕ) {xs ys zs : List ℕ} {k j : ℕ} (i m q : ℕ) → 0 < i → q ≡ getD O (i - 1) 0
-      → Marked M (Among O i m) xs ys k → Marked M (λ p. p ≡ q) ys zs j → Marked M (Among O (i - 1) m) xs zs (k + j)
-  among-more O i m q h e s t = marked-then s t (λ p a. go p a (ℕ-discrete (a .0) (i - 1)))
+  pub between-more : (O : List ℕ) {xs ys zs : List ℕ} {k j : ℕ} (i m q : ℕ) → 0 < i → q ≡ getD O (i - 1) 0
+      → BlanksMarked M (ListedBetween O i m) xs ys k → BlanksMarked M (λ p. p ≡ q) ys zs j → BlanksMarked M (ListedBetween O (i - 1) m) xs zs (k + j)
+  between-more O i m q h e s t = marked-then s t (λ p a. go p a (ℕ-discrete (a .0) (i - 1)))
     where
-      go : (p : ℕ) (a : Among O (i - 1) m p) → Dec (a .0 ≡ i - 1) → Among O i m p ⊎ (p ≡ q)
+      go : (p : ℕ) (a : ListedBetween O (i - 1) m p) → Dec (a .0 ≡ i - 1) → ListedBetween O i m p ⊎ (p ≡ q)
       go p a (yes d) = inr (sym (a .3) ∙ ap (λ l. getD O l 0) d ∙ sym e)
       go p a (no d) = inl (a .0, omega (arith, a .1), a .2, a .3)
 
   -- All states are tried.
-  pub among-all : (O : List ℕ) {xs ys : List ℕ} {k : ℕ} (i m : ℕ) → i ≡ 0 → Marked M (Among O i m) xs ys k → Marked M (Among O 0 m) xs ys k
-  among-all O {xs} {ys} {k} i m e s = subst (λ l. Marked M (Among O l m) xs ys k) e s
+  pub between-all : (O : List ℕ) {xs ys : List ℕ} {k : ℕ} (i m : ℕ) → i ≡ 0 → BlanksMarked M (ListedBetween O i m) xs ys k
+      → BlanksMarked M (ListedBetween O 0 m) xs ys k
+  between-all O {xs} {ys} {k} i m e s = subst (λ l. BlanksMarked M (ListedBetween O l m) xs ys k) e s
 
 -- Nothing more was found: the empty word is told of every state that has it.
 pub marked-told : (M : Table) {F I : List ℕ} (o : Opened F I M) (O : List ℕ) (n : ℕ) → AllListed M O n
-    → {xs ys : List ℕ} {k : ℕ} → Marked M (Among O 0 n) xs ys k → k ≡ 0 → Blanks M ys → EmptyTold M (K ys)
+    → {xs ys : List ℕ} {k : ℕ} → BlanksMarked M (ListedBetween O 0 n) xs ys k → k ≡ 0 → Blanks M ys → EmptyTold M (K ys)
 marked-told M o O n listed {ys = ys} t z B = kept-told M ys closed B
   where
     closed : (q : ℕ) → BlankOf M ys q → getD ys q 0 ≡ 0 → ⊥

@@ -40,18 +40,18 @@ pub record BlankOf (M : Table) (xs : List ℕ) (q : ℕ) : Type 0 where
 
 -- States were tried by their rules, and xs became ys. What is told stays true, and if k is 0 then nothing was changed, and something is kept for
 -- each state that was tried and has such a rule.
-pub record Marked (M : Table) (tried : ℕ → Type 0) (xs ys : List ℕ) (k : ℕ) : Type 0 where
+pub record BlanksMarked (M : Table) (tried : ℕ → Type 0) (xs ys : List ℕ) (k : ℕ) : Type 0 where
   pub keeps : Blanks M xs → Blanks M ys
   pub same : k ≡ 0 → ys ≡ xs
   pub rests : k ≡ 0 → (q : ℕ) → q < statesMost → tried q → BlankOf M ys q → getD ys q 0 ≡ 0 → ⊥
 
 -- That is so for every table that is opened in the numbers I.
 abbrev pub Marks : List ℕ → (ℕ → Type 0) → List ℕ → List ℕ → ℕ → Type 0
-Marks I tried xs ys k = (F : List ℕ) (M : Table) → Opened F I M → Marked M tried xs ys k
+Marks I tried xs ys k = (F : List ℕ) (M : Table) → Opened F I M → BlanksMarked M tried xs ys k
 
 -- State q is one of the order O from place i on and before place n.
-abbrev pub Among : List ℕ → ℕ → ℕ → ℕ → Type 0
-Among O i n q = (j : ℕ) × (i ≤ j) × (j < n) × (getD O j 0 ≡ q)
+abbrev pub ListedBetween : List ℕ → ℕ → ℕ → ℕ → Type 0
+ListedBetween O i n q = (j : ℕ) × (i ≤ j) × (j < n) × (getD O j 0 ≡ q)
 
 -- Each state of the table is among the first n of the order O.
 abbrev pub AllListed : Table → List ℕ → ℕ → Type 0

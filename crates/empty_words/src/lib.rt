@@ -10,7 +10,7 @@ ghost use Rattle.layout.specs.Layout.{numbersSize, MeantBy};
 ghost use Rattle.layout.specs.Leaves.{Holds};
 ghost use Rattle.summary.specs.Codes.{K};
 ghost use Rattle.summary.specs.Grown.{Grown};
-ghost use Rattle.empty_words.specs.Blank.{Blanks, EmptyTold, AllBlank, BlankRule, BlankOf, Marks, Among, AllListed};
+ghost use Rattle.empty_words.specs.Blank.{Blanks, EmptyTold, AllBlank, BlankRule, BlankOf, Marks, ListedBetween, AllListed};
 use layout::byte;
 use layout::child_in;
 use layout::kept_at;
@@ -87,7 +87,7 @@ fn blank_state(numbers: &[u64], q: usize, values: &mut [u16]) -> usize
 fn blank_states(numbers: &[u64], order: &[u8], n: usize, values: &mut [u16]) -> usize
     requires { ⌜ (length (now numbers) ≡ numbersSize) × (length (now values) ≡ statesMost) ⌝ }
     ensures { λ k. ⌜ Grown (now (values .entry)) (now (values .exit)) k ⌝ }
-    ensures { λ k. ⌜ Marks (now (numbers .entry)) (Among (now (order .entry)) 0 n) (now (values .entry)) (now (values .exit)) k ⌝ }
+    ensures { λ k. ⌜ Marks (now (numbers .entry)) (ListedBetween (now (order .entry)) 0 n) (now (values .entry)) (now (values .exit)) k ⌝ }
 {
     let mut i = n;
     let mut k: usize = 0;

@@ -1,10 +1,8 @@
 -- The laws of the ends of each state's words:
---   Walks      left-..: a rule's summary gathered from child to child
 --   Steps      visit-..: what one rule adds
 --   Sated      several-rests: states with several letters are finished. visit-told: a rule leaves the empty words told
 --   Rounds     tried-.., numbers-.., states-..: rules in turn
 --   Settled    tried-witnessed, tried-told, tried-covering: what is left when no rule adds anything
-pub mod Walks
 pub mod Steps
 pub mod Sated
 pub mod Rounds

@@ -18,17 +18,17 @@ use Rattle.summary.specs.Codes.{K, summaries}
 use Rattle.summary.specs.Grown.{Grown}
 use Rattle.summary.proofs.Codes.{letters-several}
 use Rattle.empty_words.specs.Blank.{EmptyTold}
-use Rattle.end_summaries.specs.Steps.{Tried, Numbers, OneState, States}
+use Rattle.end_summaries.specs.Steps.{Tried, RulesBetween, OneState, RulesOfListed}
 use Rattle.end_summaries.proofs.Sated.{several-rests, visit-told}
 
 module _ {M : Table} {side : Side} where
   -- ---- what was tried
   -- Nothing was done, and nothing was to be tried.
-  pub tried-none : {tried : ℕ → Row → Type 0} (xs : List ℕ) → ((i : ℕ) (row : Row) → tried i row → ⊥) → Tried M side tried xs xs 0
+  tried-none : {tried : ℕ → Row → Type 0} (xs : List ℕ) → ((i : ℕ) (row : Row) → tried i row → ⊥) → Tried M side tried xs xs 0
   tried-none xs h = record { keeps = λ W. W; tells = λ T. T; rests = λ R e i row there a. absurd (h i row a) }
 
   -- One after the other.
-  pub tried-then : {this that all : ℕ → Row → Type 0} {xs ys zs : List ℕ} {k j : ℕ} → Tried M side this xs ys k → Grown ys zs j → Tried M side that ys zs j
+  tried-then : {this that all : ℕ → Row → Type 0} {xs ys zs : List ℕ} {k j : ℕ} → Tried M side this xs ys k → Grown ys zs j → Tried M side that ys zs j
       → ((i : ℕ) (row : Row) → all i row → this i row ⊎ that i row) → Tried M side all xs zs (k + j)
   tried-then t g s split =
       record {
@@ -40,14 +40,14 @@ module _ {M : Table} {side : Side} where
       }
 
   -- What was tried is told by fewer words.
-  pub tried-as : {this that : ℕ → Row → Type 0} {xs ys : List ℕ} {k : ℕ} → Tried M side this xs ys k
+  tried-as : {this that : ℕ → Row → Type 0} {xs ys : List ℕ} {k : ℕ} → Tried M side this xs ys k
       → ((i : ℕ) (row : Row) → RowAt M i row → that i row → this i row) → Tried M side that xs ys k
   tried-as t f = record { keeps = t .keeps; tells = t .tells; rests = λ R z i row there a. t .rests R z i row there (f i row there a) }
 
   -- ---- the rules of a state
   module _ (rising : Rising (M .rows)) {q from to : ℕ} (rules : RulesOf M q from to) where
     -- One rule.
-    pub rule-tried : {xs ys : List ℕ} {k : ℕ} (i : ℕ) → from ≤ i → i < to → Grown xs ys k
+    rule-tried : {xs ys : List ℕ} {k : ℕ} (i : ℕ) → from ≤ i → i < to → Grown xs ys k
         → ((row : Row) → RowAt M i row → row .state ≡ q → summaries ys ≡ visit side row (summaries xs)) → Tried M side (λ j row. j ≡ i) xs ys k
     rule-tried {xs} {ys} {k} i a b g step =
         record {
@@ -68,20 +68,21 @@ module _ {M : Table} {side : Side} where
         made = step row there (rules .exactly i row there .0 (a, b))
 
     -- No rule is tried yet.
-    pub numbers-none : (xs : List ℕ) → Tried M side (Numbers to to) xs xs 0
+    pub numbers-none : (xs : List ℕ) → Tried M side (RulesBetween to to) xs xs 0
     numbers-none xs = tried-none xs (λ i row a. omega (arith, a .0, a .1))
 
     -- One rule more, before those that were tried.
-    pub numbers-more : {xs ys zs : List ℕ} {k j : ℕ} (i : ℕ) → from < i → i ≤ to → Tried M side (Numbers i to) xs ys k → Grown ys zs j
-        → ((row : Row) → RowAt M (i - 1) row → row .state ≡ q → summaries zs ≡ visit side row (summaries ys)) → Tried M side (Numbers (i - 1) to) xs zs (k + j)
+    pub numbers-more : {xs ys zs : List ℕ} {k j : ℕ} (i : ℕ) → from < i → i ≤ to → Tried M side (RulesBetween i to) xs ys k → Grown ys zs j
+        → ((row : Row) → RowAt M (i - 1) row → row .state ≡ q → summaries zs ≡ visit side row (summaries ys))
+        → Tried M side (RulesBetween (i - 1) to) xs zs (k + j)
     numbers-more i l h t g step = tried-then t g (rule-tried (i - 1) (omega arith) (omega arith) g step) (λ j row a. go j row a (ℕ-discrete j (i - 1)))
       where
-        go : (j : ℕ) (row : Row) → Numbers (i - 1) to j row → Dec (j ≡ i - 1) → Numbers i to j row ⊎ (j ≡ i - 1)
+        go : (j : ℕ) (row : Row) → RulesBetween (i - 1) to j row → Dec (j ≡ i - 1) → RulesBetween i to j row ⊎ (j ≡ i - 1)
         go j row a (yes d) = inr d
         go j row a (no d) = inl (omega (arith, a .0), a .1)
 
     -- All rules of the state are tried.
-    pub numbers-all : {xs ys : List ℕ} {k : ℕ} (i : ℕ) → i ≤ from → Tried M side (Numbers i to) xs ys k → Tried M side (OneState q) xs ys k
+    pub numbers-all : {xs ys : List ℕ} {k : ℕ} (i : ℕ) → i ≤ from → Tried M side (RulesBetween i to) xs ys k → Tried M side (OneState q) xs ys k
     numbers-all i l t = tried-as t (λ j row there a. let w = rules .exactly j row there .1 a in (omega (arith, w .0), w .1))
 
   -- No rule is one of a state that the table cannot have.
@@ -102,18 +103,20 @@ module _ {M : Table} {side : Side} where
 
   -- ---- all states
   -- No state is tried yet.
-  pub states-none : (O xs : List ℕ) (n : ℕ) → Tried M side (States O n n) xs xs 0
+  pub states-none : (O xs : List ℕ) (n : ℕ) → Tried M side (RulesOfListed O n n) xs xs 0
   states-none O xs n = tried-none xs (λ i row a. omega (arith, a .1, a .2))
 
   -- One state more.
-  pub states-more : (O : List ℕ) {xs ys zs : List ℕ} {k m : ℕ} (j n q : ℕ) → 0 < j → q ≡ getD O (j - 1) 0 → Tried M side (States O j n) xs ys k → Grown ys zs m
-      → Tried M side (OneState q) ys zs m → Tried M side (States O (j - 1) n) xs zs (k + m)
+  pub states-more : (O : List ℕ) {xs ys zs : List ℕ} {k m : ℕ} (j n q : ℕ) → 0 < j → q ≡ getD O (j - 1) 0
+      → Tried M side (RulesOfListed O j n) xs ys k → Grown ys zs m
+      → Tried M side (OneState q) ys zs m → Tried M side (RulesOfListed O (j - 1) n) xs zs (k + m)
   states-more O j n q h e t g u = tried-then t g u (λ i row a. go i row a (ℕ-discrete (a .0) (j - 1)))
     where
-      go : (i : ℕ) (row : Row) (a : States O (j - 1) n i row) → Dec (a .0 ≡ j - 1) → States O j n i row ⊎ OneState q i row
+      go : (i : ℕ) (row : Row) (a : RulesOfListed O (j - 1) n i row) → Dec (a .0 ≡ j - 1) → RulesOfListed O j n i row ⊎ OneState q i row
       go i row a (yes d) = inr (sym (a .3) ∙ ap (λ m. getD O m 0) d ∙ sym e)
       go i row a (no d) = inl (a .0, omega (arith, a .1), a .2, a .3)
 
   -- All states are tried.
-  pub states-all : (O : List ℕ) {xs ys : List ℕ} {k : ℕ} (j n : ℕ) → j ≡ 0 → Tried M side (States O j n) xs ys k → Tried M side (States O 0 n) xs ys k
-  states-all O {xs} {ys} {k} j n e t = subst (λ m. Tried M side (States O m n) xs ys k) e t
+  pub states-all : (O : List ℕ) {xs ys : List ℕ} {k : ℕ} (j n : ℕ) → j ≡ 0 → Tried M side (RulesOfListed O j n) xs ys k
+      → Tried M side (RulesOfListed O 0 n) xs ys k
+  states-all O {xs} {ys} {k} j n e t = subst (λ m. Tried M side (RulesOfListed O m n) xs ys k) e t

@@ -16,7 +16,7 @@ use Rattle.end_laws.proofs.Known.{Found, at-set}
 use Rattle.summary.specs.Codes.{K, summaries}
 use Rattle.summary.proofs.Growing.{summary-all}
 use Rattle.empty_words.specs.Blank.{EmptyTold}
-use Rattle.end_summaries.specs.Steps.{Ready}
+use Rattle.end_summaries.specs.Steps.{ReadySummaries}
 use Rattle.end_summaries.proofs.Steps.{visit-none}
 
 -- A summary with several letters is not changed by words, if it has the empty word where they have it.
@@ -30,16 +30,17 @@ join-several x y e f = λ i. record { empty = go (x .empty) (y .empty) f i; lett
 
 module _ (M : Table) (side : Side) where
   -- A rule has the empty word only where it is told of the rule's state.
-  empty-ready : (k : ℕ → Ends) → Ready M side k → (row : Row) → Found M side row → value side k (row .rule) .empty ≡ true → k (row .state) .empty ≡ true
+  empty-ready : (k : ℕ → Ends) → ReadySummaries M side k → (row : Row) → Found M side row → value side k (row .rule) .empty ≡ true
+      → k (row .state) .empty ≡ true
   empty-ready k R row found e =
       let s = value-shown M side k (R .0) (row .state) (row .symbol) (row .rule) found .empty e in
       R .1 (row .state) (subst (Holds (L M (row .state))) (end-empty side (s .0) (s .2)) (s .1))
 
   -- No rule adds anything to a state with several letters.
-  pub several-rests : (xs : List ℕ) → Ready M side (at (summaries xs)) → (row : Row) → Found M side row → K xs (row .state) .letters ≡ several
+  pub several-rests : (xs : List ℕ) → ReadySummaries M side (at (summaries xs)) → (row : Row) → Found M side row → K xs (row .state) .letters ≡ several
       → visit side row (summaries xs) ≡ summaries xs
   several-rests xs R row found e =
-      let told = empty-ready (K xs) (subst (Ready M side) (summary-all xs) R) row found in
+      let told = empty-ready (K xs) (subst (ReadySummaries M side) (summary-all xs) R) row found in
       sym (visit-none side row (row .state) refl xs (join-several (K xs (row .state)) (value side (K xs) (row .rule)) e told))
 
   -- A rule leaves the empty words told.

@@ -15,7 +15,7 @@ use Rattle.layout.specs.Layout.{Opened}
 use Rattle.summary.specs.Codes.{decode, K, summaries}
 use Rattle.summary.proofs.Growing.{summary-all}
 use Rattle.empty_words.specs.Blank.{EmptyTold, AllListed}
-use Rattle.end_summaries.specs.Steps.{Ready, Tried, States}
+use Rattle.end_summaries.specs.Steps.{ReadySummaries, Tried, RulesOfListed}
 
 module _ (M : Table) (side : Side) where
   module _ {tried : ℕ → Row → Type 0} {xs ys : List ℕ} {k : ℕ} (t : Tried M side tried xs ys k) where
@@ -28,14 +28,14 @@ module _ (M : Table) (side : Side) where
     tried-told T = subst (EmptyTold M) (summary-all ys) (t .tells (subst (EmptyTold M) (sym (summary-all xs)) T))
 
   module _ {F I : List ℕ} (o : Opened F I M) (O : List ℕ) (n : ℕ) (listed : AllListed M O n) {xs ys : List ℕ} {k : ℕ} (long : length ys ≡ statesMost)
-      (t : Tried M side (States O 0 n) xs ys k) (z : k ≡ 0) (R : Ready M side (K xs)) where
+      (t : Tried M side (RulesOfListed O 0 n) xs ys k) (z : k ≡ 0) (R : ReadySummaries M side (K xs)) where
     -- No row adds anything.
     tried-closed : Closed M side (at (summaries ys))
     tried-closed i row e =
         let fits = every-at (RowFits M) (M .rows) (o .limited .made .rows) i row e in
         let place = listed (row .state) (fits .state) in
         let inside : row .state < length (summaries ys) = rw (length-map ys decode) (omega (arith, fits .state, o .limited .states, long)) in
-        let ready = subst (Ready M side) (sym (summary-all xs)) R in
+        let ready = subst (ReadySummaries M side) (sym (summary-all xs)) R in
         visit-settled side row (summaries ys) inside (t .rests ready z i row e (place .0, omega arith, place .1, place .2))
 
     -- Every word fits.

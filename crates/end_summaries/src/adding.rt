@@ -9,12 +9,12 @@ ghost use Rattle.layout.specs.Layout.{numbersSize, Opened};
 ghost use Rattle.layout.specs.Leaves.{RowAt};
 ghost use Rattle.summary.specs.Codes.{sideOf, summaries};
 ghost use Rattle.summary.specs.Grown.{Grown};
-ghost use Rattle.end_summaries.specs.Steps.{Adds, OneState, States};
-use crate::value::rule_value;
+ghost use Rattle.end_summaries.specs.Steps.{Adds, OneState, RulesOfListed};
 use layout::STATES;
 use layout::byte;
 use layout::rules_in;
 use layout::wide;
+use rule_summary::rule_value;
 use summary::joined;
 use summary::rank_of;
 
@@ -76,7 +76,7 @@ pub fn add_states(
 ) -> usize
     requires { ⌜ (length (now numbers) ≡ numbersSize) × (length (now values) ≡ statesMost) ⌝ }
     ensures { λ k. ⌜ Grown (now (values .entry)) (now (values .exit)) k ⌝ }
-    ensures { λ k. ⌜ Adds (now (frames .entry)) (now (numbers .entry)) (sideOf side) (States (now (order .entry)) 0 n)
+    ensures { λ k. ⌜ Adds (now (frames .entry)) (now (numbers .entry)) (sideOf side) (RulesOfListed (now (order .entry)) 0 n)
         (now (values .entry)) (now (values .exit)) k ⌝ }
 {
     let mut i = n;

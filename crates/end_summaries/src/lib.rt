@@ -1,5 +1,6 @@
 // The ends of each state's words in an opened table, at the left or at the right: whether there is no letter, one and which, or several.
-// Nothing is asked of the lent bytes and numbers but how many numbers they are: reads are clamped, and each contract speaks of every table that they mean.
+// Nothing is asked of the lent bytes and numbers but how many numbers they are: reads are clamped,
+// and each contract speaks of every table that they mean.
 ghost use mathlib.Core.Path.{_≡_};
 ghost use lib.ListN.{length};
 ghost use Rattle.text.specs.Limits.{statesMost};
@@ -9,7 +10,6 @@ ghost use Rattle.end_summaries.specs.Steps.{Settles};
 use crate::adding::add_states;
 
 mod adding;
-mod value;
 
 // The summaries of the states' words at a side (0 left, 1 right): rules are added to them, state by state, until none adds anything.
 // The empty word is told before, so that a state with several letters is finished.

@@ -14,7 +14,7 @@ use Rattle.promises.specs.Room.{into, filled}
 use Rattle.layout.specs.Layout.{Opened}
 use Rattle.classes.specs.Classes.{Classes, TwinClasses}
 use Rattle.classes.proofs.Settled.{twin-classes}
-use Rattle.visit.specs.Visiting.{byRep}
+use Rattle.visit_queue.specs.Queue.{byRep}
 use Rattle.form_writer.specs.Visiting.{StatesNumbered}
 use Rattle.form_writer.specs.Promises.{FormLong, FormWritten}
 use Rattle.form_call.specs.declared.Formed.{Formed}

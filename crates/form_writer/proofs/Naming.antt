@@ -7,8 +7,8 @@ use lib.ListN.{getD, replicate}
 use Rattle.machine.specs.Machine.{Table}
 use Rattle.machine.specs.Form.{order}
 use Rattle.text.specs.Limits.{statesMost}
-use Rattle.visit.specs.Visiting.{byRep, Listing}
-use Rattle.visit.proofs.Marks.{mark-known}
+use Rattle.visit_queue.specs.Queue.{byRep, Listing}
+use Rattle.visit_queue.proofs.Marks.{mark-known}
 use Rattle.form_writer.specs.Visiting.{Numbered}
 
 -- A known state's number is one less than the mark of its class.

@@ -7,7 +7,7 @@ use Rattle.machine.specs.Machine.{Table}
 use Rattle.machine.specs.Form.{Test, numberIn, order}
 use Rattle.text.specs.Limits.{statesMost}
 use Rattle.layout.specs.Layout.{Opened}
-use Rattle.visit.specs.Visiting.{byRep}
+use Rattle.visit_queue.specs.Queue.{byRep}
 
 -- The first n entries of O are the states of M by first visit, and N has the number of each state that has one.
 pub record Numbered (same : Test) (M : Table) (O N : List ℕ) (n : ℕ) : Type 0 where

@@ -16,8 +16,9 @@ use Rattle.layout.specs.Layout.{Opened}
 use Rattle.layout.specs.Leaves.{RowAt, rowOf, Holds, Tells, Kept}
 use Rattle.layout.specs.Kids.{Kids}
 use Rattle.layout.proofs.Numbered.{row-fits}
-use Rattle.same_rules.specs.Compared.{Any, SameRule, RowIn, RowOf}
-use Rattle.same_rules.proofs.Turns.{rests-length}
+use Rattle.same_words.specs.Words.{Any, RowIn}
+use Rattle.same_words.proofs.Turns.{rests-length}
+use Rattle.same_rules.specs.Compared.{RowOf}
 
 -- ---- words and children
 module _ (R : ℕ → ℕ → Type 0) where
@@ -35,21 +36,14 @@ module _ (R : ℕ → ℕ → Type 0) where
   rests-kids (c ∷ cs) [] h = h
   rests-kids (c ∷ cs) (d ∷ ds) h = (h .0, rests-kids cs ds (h .2))
 
-  -- Children that are related are as many.
-  pub kids-length : (cs ds : List Child) → Kids R cs ds → length cs ≡ length ds
-  kids-length [] [] h = refl
-  kids-length [] (d ∷ ds) h = absurd h
-  kids-length (c ∷ cs) [] h = absurd h
-  kids-length (c ∷ cs) (d ∷ ds) h = ap suc (kids-length cs ds (h .1))
-
   -- Where rules have the same words in turn, a test of their children is a test of the rules.
-  pub told-kids : {z : Bool} (a b : Rule) → Rules Any (some a) (some b) → Told (Kids R (a .rest) (b .rest)) z → Told (Rules R (some a) (some b)) z
+  told-kids : {z : Bool} (a b : Rule) → Rules Any (some a) (some b) → Told (Kids R (a .rest) (b .rest)) z → Told (Rules R (some a) (some b)) z
   told-kids a b h t =
       told-map (λ k. (h .0, rests-join (a .rest) (b .rest) (h .1) k)) (λ k. rests-kids (a .rest) (b .rest) (k .1)) t
 
   -- ---- rules that are looked up
   -- A test of two rules is one of the rules found.
-  pub told-found : {z : Bool} {x y : Option Rule} {a b : Rule} → x ≡ some a → y ≡ some b → Told (Rules R (some a) (some b)) z → Told (Rules R x y) z
+  told-found : {z : Bool} {x y : Option Rule} {a b : Rule} → x ≡ some a → y ≡ some b → Told (Rules R (some a) (some b)) z → Told (Rules R x y) z
   told-found {z} {x} {y} {a} {b} d e t =
       subst (λ (m : Option Rule). Told (Rules R m y) z) (sym d) (subst (λ (m : Option Rule). Told (Rules R (some a) m) z) (sym e) t)
 
@@ -58,7 +52,7 @@ module _ (R : ℕ → ℕ → Type 0) where
   both-some {x} {y} {a} {b} d e h = subst (λ (m : Option Rule). Rules R (some a) m) e (subst (λ (m : Option Rule). Rules R m y) d h)
 
   -- A rule and none do not match.
-  pub told-missing : {x y : Option Rule} {a : Rule} → x ≡ some a → y ≡ none → Told (Rules R x y) false
+  told-missing : {x y : Option Rule} {a : Rule} → x ≡ some a → y ≡ none → Told (Rules R x y) false
   told-missing {x} {y} {a} d e =
       subst (λ (m : Option Rule). Told (Rules R m y) false) (sym d) (subst (λ (m : Option Rule). Told (Rules R (some a) m) false) (sym e) (told-no (λ h. h)))
 
@@ -77,20 +71,8 @@ module _ (R : ℕ → ℕ → Type 0) where
 pub row-found : {M : Table} → Rising (M .rows) → {q i : ℕ} {a : Row} → RowOf M q i a → find (M .rows) q (a .symbol) ≡ some (a .rule)
 row-found {M} up {q} {i} {a} h = ap (λ (p : ℕ). find (M .rows) p (a .symbol)) (sym (h .state)) ∙ find-row (M .rows) up i a (h .row)
 
-module _ (R : ℕ → ℕ → Type 0) {F I G J : List ℕ} {M N : Table} (o : Opened F I M) (p : Opened G J N) (a b : Row) (i j : ℕ) (e : RowAt M i a)
-    (f : RowAt N j b) where
-  -- A test of the rules of two rows is one of the rules found for their states and symbols.
-  pub told-rows : {z : Bool} → Told (Rules R (some (a .rule)) (some (b .rule))) z → Told (SameRule R M N a b) z
-  told-rows = told-found R (find-row (M .rows) (o .limited .made .rising) i a e) (find-row (N .rows) (p .limited .made .rising) j b f)
-
-  -- Where these have the same words in turn, a test of their children tells.
-  pub told-rows-kids : {z : Bool} → SameRule Any M N a b → Told (Kids R (a .rule .rest) (b .rule .rest)) z → Told (SameRule R M N a b) z
-  told-rows-kids h t =
-      let same = both-some Any (find-row (M .rows) (o .limited .made .rising) i a e) (find-row (N .rows) (p .limited .made .rising) j b f) h in
-      told-rows (told-kids R (a .rule) (b .rule) same t)
-
 -- What is kept for a rule that is found tells it.
-pub kept-tells : {M : Table} {q f x : ℕ} {a : Rule} → Kept M q f x → find (M .rows) q f ≡ some a → Tells M q f x
+kept-tells : {M : Table} {q f x : ℕ} {a : Rule} → Kept M q f x → find (M .rows) q f ≡ some a → Tells M q f x
 kept-tells {M} {q} {f} {x} {a} k e = go (ℕ-discrete x 0)
   where
     go : Dec (x ≡ 0) → Tells M q f x
@@ -98,7 +80,7 @@ kept-tells {M} {q} {f} {x} {a} k e = go (ℕ-discrete x 0)
     go (no n) = k .some n
 
 -- A rule that is told is one of the opened table.
-pub tells-row : {F I : List ℕ} {M : Table} {q f x : ℕ} → Opened F I M → (t : Tells M q f x) → RowIn F I M (rowOf q f (t .rule)) x
+tells-row : {F I : List ℕ} {M : Table} {q f x : ℕ} → Opened F I M → (t : Tells M q f x) → RowIn F I M (rowOf q f (t .rule)) x
 tells-row o t = record { opened = o; number = t .number; row = t .ruled .row; holds = t .holds }
 
 -- The state of a row is one of the table.
@@ -106,8 +88,8 @@ pub row-state : {F I : List ℕ} {M : Table} {q i : ℕ} {a : Row} → Opened F 
 row-state {i = i} {a = a} o w = omega (arith, row-fits o i a (w .row) .state, w .state)
 
 -- The rules of state q in M and of state r in N for the symbol f match.
-abbrev pub Both : (ℕ → ℕ → Type 0) → Table → Table → ℕ → ℕ → ℕ → Type 0
-Both R M N q r f = Rules R (find (M .rows) q f) (find (N .rows) r f)
+abbrev pub MatchFor : (ℕ → ℕ → Type 0) → Table → Table → ℕ → ℕ → ℕ → Type 0
+MatchFor R M N q r f = Rules R (find (M .rows) q f) (find (N .rows) r f)
 
 module _ {F I G J : List ℕ} {M N : Table} (o : Opened F I M) (p : Opened G J N) (q r f : ℕ) (a : Row) {i : ℕ} (w : RowOf M q i a) (e : f ≡ a .symbol) where
   -- The row's rule is found for its symbol, by any name.
@@ -115,28 +97,28 @@ module _ {F I G J : List ℕ} {M N : Table} (o : Opened F I M) (p : Opened G J N
   found-here = ap (λ (g : ℕ). find (M .rows) q g) e ∙ row-found (o .limited .made .rising) w
 
   -- Where r has no rule for the symbol, the rules do not match.
-  pub told-none : {y : ℕ} → Kept N r f y → y ≡ 0 → Told (Both Any M N q r (a .symbol)) false
-  told-none k z = subst (λ (g : ℕ). Told (Both Any M N q r g) false) e (told-missing Any found-here (k .none z))
+  pub told-none : {y : ℕ} → Kept N r f y → y ≡ 0 → Told (MatchFor Any M N q r (a .symbol)) false
+  told-none k z = subst (λ (g : ℕ). Told (MatchFor Any M N q r g) false) e (told-missing Any found-here (k .none z))
 
   -- Where it has one, a test of the words of the two rules tells.
   pub told-shape : {x y : ℕ} {z : Bool} → Kept M q f x → Kept N r f y → (y ≡ 0 → ⊥)
-      → ((b d : Row) → RowIn F I M b x → RowIn G J N d y → Told (Rules Any (some (b .rule)) (some (d .rule))) z) → Told (Both Any M N q r (a .symbol)) z
+      → ((b d : Row) → RowIn F I M b x → RowIn G J N d y → Told (Rules Any (some (b .rule)) (some (d .rule))) z) → Told (MatchFor Any M N q r (a .symbol)) z
   told-shape {x} {y} {z} k l n t =
       let s = kept-tells k found-here in
       let u = l .some n in
-      subst (λ (g : ℕ). Told (Both Any M N q r g) z) e
+      subst (λ (g : ℕ). Told (MatchFor Any M N q r g) z) e
       (told-found Any (s .ruled .found) (u .ruled .found) (t (rowOf q f (s .rule)) (rowOf r f (u .rule)) (tells-row o s) (tells-row p u)))
 
   -- Where the two rules have the same words in turn, a test of their children tells.
-  pub told-match : (R : ℕ → ℕ → Type 0) {x y : ℕ} {z : Bool} → Both Any M N q r (a .symbol) → Kept M q f x → Kept N r f y
+  pub told-match : (R : ℕ → ℕ → Type 0) {x y : ℕ} {z : Bool} → MatchFor Any M N q r (a .symbol) → Kept M q f x → Kept N r f y
       → ((m n : ℕ) (b d : Rule) → Holds x m b → Holds y n d → length (b .rest) ≡ length (d .rest) → Told (Kids R (b .rest) (d .rest)) z)
-      → Told (Both R M N q r (a .symbol)) z
+      → Told (MatchFor R M N q r (a .symbol)) z
   told-match R {x} {y} {z} h k l t =
-      let here = subst (λ (g : ℕ). Both Any M N q r g) (sym e) h in
+      let here = subst (λ (g : ℕ). MatchFor Any M N q r g) (sym e) h in
       let s = kept-tells k found-here in
       let u = kept-tells l (there-too Any (a .rule) _ _ found-here here .1) in
       let same = both-some Any (s .ruled .found) (u .ruled .found) here in
-      subst (λ (g : ℕ). Told (Both R M N q r g) z) e
+      subst (λ (g : ℕ). Told (MatchFor R M N q r g) z) e
       (told-found R (s .ruled .found) (u .ruled .found)
       (told-kids R (s .rule) (u .rule) same
       (t (s .number) (u .number) (s .rule) (u .rule) (s .holds) (u .holds) (rests-length Any (s .rule .rest) (u .rule .rest) (same .1)))))

@@ -14,7 +14,8 @@ use Rattle.machine.specs.Machine.{Rule, Row, Table, Before, Rising, find}
 use Rattle.machine.specs.Twins.{Rules, Match}
 use Rattle.machine.proofs.Find.{every-at, index-row, rising-first, find-index, find-none}
 use Rattle.layout.specs.Leaves.{RulesOf}
-use Rattle.same_rules.specs.Compared.{Any, RowOf}
+use Rattle.same_words.specs.Words.{Any}
+use Rattle.same_rules.specs.Compared.{RowOf}
 use Rattle.same_rules.proofs.Found.{there-too, here-too, row-found}
 
 -- ---- the rows of a state
@@ -71,7 +72,7 @@ index-rises {M} h {q} {i} {j} {r} {s} a b l = go (ltb i j) (ltb j i) refl refl
         absurd (omega (arith, l, ap (λ (x : Row). x .symbol) same))
 
 -- Row i of state q in M and row j of state r in N have one symbol.
-record Pair (M N : Table) (q r i j : ℕ) : Type 0 where
+record PartnerRows (M N : Table) (q r i j : ℕ) : Type 0 where
   one : Row
   other : Row
   here : RowOf M q i one
@@ -79,12 +80,12 @@ record Pair (M N : Table) (q r i j : ℕ) : Type 0 where
   symbol : one .symbol ≡ other .symbol
 
 -- The same the other way round.
-turned : {M N : Table} {q r i j : ℕ} → Pair M N q r i j → Pair N M r q j i
+turned : {M N : Table} {q r i j : ℕ} → PartnerRows M N q r i j → PartnerRows N M r q j i
 turned p = record { one = p .other; other = p .one; here = p .there; there = p .here; symbol = sym (p .symbol) }
 
 -- Each row of q has one of r with its symbol.
 abbrev Partners : Table → Table → ℕ → ℕ → Type 0
-Partners M N q r = (i : ℕ) (a : Row) → RowOf M q i a → (j : ℕ) × Pair M N q r i j
+Partners M N q r = (i : ℕ) (a : Row) → RowOf M q i a → (j : ℕ) × PartnerRows M N q r i j
 
 module _ {M N : Table} (up : Rising (M .rows)) (up′ : Rising (N .rows)) {q r a b c d : ℕ} (A : RulesOf M q a b) (B : RulesOf N r c d) where
   -- A row of r has a number of r's rules.
@@ -92,23 +93,23 @@ module _ {M N : Table} (up : Rising (M .rows)) (up′ : Rising (N .rows)) {q r a
   row-there {j} {s} h = B .exactly j s (h .row) .1 (h .state)
 
   -- Partners of later rows stand later.
-  later : {i j k l : ℕ} → Pair M N q r i j → Pair M N q r k l → i < k → j < l
+  later : {i j k l : ℕ} → PartnerRows M N q r i j → PartnerRows M N q r k l → i < k → j < l
   later x y h = index-rises up′ (x .there) (y .there) (omega (arith, symbols-rise up (x .here) (y .here) h, x .symbol, y .symbol))
 
   module _ (P : Partners M N q r) where
     -- The partner of a row with a number of q's rules.
-    partner : (i : ℕ) → a ≤ i → i < b → (j : ℕ) × Pair M N q r i j
+    partner : (i : ℕ) → a ≤ i → i < b → (j : ℕ) × PartnerRows M N q r i j
     partner i l m = let x = row-numbered A i l m in P i (x .0) (x .1)
 
     -- The partner of row number a + n stands at c + n at least.
-    low : (n i j : ℕ) → i ≡ a + n → i < b → Pair M N q r i j → c + n ≤ j
+    low : (n i j : ℕ) → i ≡ a + n → i < b → PartnerRows M N q r i j → c + n ≤ j
     low zero i j e m p = omega (arith, row-there (p .there) .0)
     low (suc n) i j e m p =
         let x = partner (a + n) (omega arith) (omega arith) in
         omega (arith, low n (a + n) (x .0) refl (omega arith) (x .1), later (x .1) p (omega arith))
 
     -- Where n rows stand behind a row, its partner has n behind it too.
-    high : (n i j : ℕ) → i + suc n ≡ b → a ≤ i → Pair M N q r i j → j + suc n ≤ d
+    high : (n i j : ℕ) → i + suc n ≡ b → a ≤ i → PartnerRows M N q r i j → j + suc n ≤ d
     high zero i j e l p = omega (arith, row-there (p .there) .1)
     high (suc n) i j e l p =
         let x = partner (i + 1) (omega arith) (omega arith) in
@@ -126,7 +127,7 @@ module _ {M N : Table} (up : Rising (M .rows)) (up′ : Rising (N .rows)) {q r a
         go false e = omega (arith, ltb-false a b e, B .ordered, A .ordered)
 
     -- Where they are as many, each rule of r is a partner.
-    all-taken : b + c ≡ d + a → (j : ℕ) (s : Row) → RowOf N r j s → (i : ℕ) × Pair M N q r i j
+    all-taken : b + c ≡ d + a → (j : ℕ) (s : Row) → RowOf N r j s → (i : ℕ) × PartnerRows M N q r i j
     all-taken e j s h =
         let n = row-there h in
         let i = a + (j - c) in
@@ -134,7 +135,7 @@ module _ {M N : Table} (up : Rising (M .rows)) (up′ : Rising (N .rows)) {q r a
         let x = partner i (omega arith) m in
         let u = low (j - c) i (x .0) refl m (x .1) in
         let v = high (b - i - 1) i (x .0) (omega (arith, m)) (omega arith) (x .1) in
-        (i, subst (λ (k : ℕ). Pair M N q r i k) (omega (arith, u, v, n .0, n .1, e, m)) (x .1))
+        (i, subst (λ (k : ℕ). PartnerRows M N q r i k) (omega (arith, u, v, n .0, n .1, e, m)) (x .1))
 
 -- The rule of each row of q matches that of r for its symbol.
 abbrev pub Matched : (ℕ → ℕ → Type 0) → Table → Table → ℕ → ℕ → Type 0
@@ -167,7 +168,7 @@ module _ (R : ℕ → ℕ → Type 0) where
     none-match f d e = subst (λ (o : Option Rule). Rules R o (find (N .rows) r f)) (sym d) (subst (λ (o : Option Rule). Rules R none o) (sym e) tt)
 
     -- Where each row of q is matched and each row of r is a partner, all rules match.
-    matches : Matched R M N q r → ((j : ℕ) (b : Row) → RowOf N r j b → (i : ℕ) × Pair M N q r i j) → Match M N R q r
+    matches : Matched R M N q r → ((j : ℕ) (b : Row) → RowOf N r j b → (i : ℕ) × PartnerRows M N q r i j) → Match M N R q r
     matches h t f = go (find (M .rows) q f) (find (N .rows) r f) refl refl
       where
         go : (x y : Option Rule) → find (M .rows) q f ≡ x → find (N .rows) r f ≡ y → Rules R (find (M .rows) q f) (find (N .rows) r f)

@@ -3,26 +3,10 @@ use mathlib.Core.Path.{_≡_}
 use mathlib.Core.List.{List}
 use Prim.Native.Nat.{ℕ, _<_}
 use lib.ListN.{length}
-use Rattle.machine.specs.Machine.{Row, Table, find}
-use Rattle.machine.specs.Twins.{Rules}
+use Rattle.machine.specs.Machine.{Row, Table}
 use Rattle.text.specs.Limits.{statesMost}
-use Rattle.layout.specs.Layout.{numbersSize, Opened}
-use Rattle.layout.specs.Leaves.{RowAt, Holds}
-
--- Any two states: where they are the only ones compared, rules match if they have as many children and the same words in turn.
-abbrev pub Any : ℕ → ℕ → Type 0
-Any p s = Unit {0}
-
--- The rules that M and N have for the states and the symbols of the rows a and b match.
-abbrev pub SameRule : (ℕ → ℕ → Type 0) → Table → Table → Row → Row → Type 0
-SameRule R M N a b = Rules R (find (M .rows) (a .state) (a .symbol)) (find (N .rows) (b .state) (b .symbol))
-
--- The opened table M has the row a, and the number x tells its rule.
-pub record RowIn (F I : List ℕ) (M : Table) (a : Row) (x : ℕ) : Type 0 where
-  pub opened : Opened F I M
-  pub number : ℕ
-  pub row : RowAt M number a
-  pub holds : Holds x number (a .rule)
+use Rattle.layout.specs.Layout.{numbersSize}
+use Rattle.layout.specs.Leaves.{RowAt}
 
 -- Row number i is a, a row of state q.
 pub record RowOf (M : Table) (q i : ℕ) (a : Row) : Type 0 where

@@ -74,7 +74,7 @@ parts : {a b : Bool} {l m : Letters} → a ≡ b → l ≡ m → _≡_ {A = Ends
 parts e f = λ i. record { empty = e i; letters = f i }
 
 -- A summary with the empty word.
-pub with-empty : (n : ℕ) → n < 1024 → decode (n + 1024) ≡ record { empty = true; letters = lettersOf n }
+with-empty : (n : ℕ) → n < 1024 → decode (n + 1024) ≡ record { empty = true; letters = lettersOf n }
 with-empty n h = parts (lt-ltb 1023 (n + 1024) (omega arith)) (ap lettersOf (omega arith))
 
 -- A summary without it.

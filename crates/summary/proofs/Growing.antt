@@ -28,7 +28,7 @@ pub summary-all : (xs : List ℕ) → at (summaries xs) ≡ K xs
 summary-all xs = λ i q. summary-at xs q i
 
 -- How much can be known of as many states as a table can have.
-pub ranks-most : (xs : List ℕ) → length xs ≡ statesMost → ranks (summaries xs) ≤ 3 * statesMost
+ranks-most : (xs : List ℕ) → length xs ≡ statesMost → ranks (summaries xs) ≤ 3 * statesMost
 ranks-most xs l = omega (arith, ranks-le (summaries xs), length-map xs decode)
 
 -- A summary that is put where it stands already changes nothing.

@@ -8,7 +8,9 @@ use native.Mathlib.Omega.{arith}
 use Rattle.machine.specs.Machine.{Table}
 use Rattle.machine.specs.Verdict.{Verdict, earliest, late}
 use Rattle.end_laws.specs.Companion.{Check, judgeBy}
-use Rattle.checks.specs.Checks.{checkAt, leastAt, allChecks}
+use Rattle.checks.specs.declared.Fault.{Fault}
+use Rattle.checks.specs.declared.Fault.the-variants.{At, Nowhere}
+use Rattle.checks.specs.Checks.{placeOf, checkAt, leastAt, allChecks}
 
 module _ (M : Table) (m xs ys : List ℕ) where
   -- k checks from number n on.
@@ -42,13 +44,14 @@ module _ (M : Table) (m xs ys : List ℕ) where
   unfolding judgeBy
   judge-one n h o e = sym (ap judgeBy (from-more n h) ∙ ap (λ x. judgedBy n (upTo (n + 1)) x) (sym e))
 
-  -- A place that is found for n.
-  pub judge-found : (n : ℕ) → n ≤ 18 → (p : ℕ) → some p ≡ leastAt n M m xs ys → late n p ≡ judgeBy (upTo n)
-  judge-found n h p e = judge-one n h (some p) e
+  -- A place that is found for n is the verdict v, where v is what is judged from n on.
+  pub judge-found : {v : Verdict} (n : ℕ) → n ≤ 18 → judgeBy (upTo n) ≡ v → {r : Fault} (p : ℕ) → r ≡ At p → placeOf r ≡ leastAt n M m xs ys → late n p ≡ v
+  judge-found n h d p f e = judge-one n h (some p) (sym (ap placeOf f) ∙ e) ∙ d
 
-  -- No place is found for n.
-  pub judge-next : (n : ℕ) → n ≤ 18 → none ≡ leastAt n M m xs ys → judgeBy (upTo (n + 1)) ≡ judgeBy (upTo n)
-  judge-next n h e = judge-one n h none e
+  -- If no place is found for n, it is judged from the next number on.
+  pub judge-next : {v : Verdict} (n : ℕ) → n ≤ 18 → judgeBy (upTo n) ≡ v → {r : Fault} → r ≡ Nowhere → placeOf r ≡ leastAt n M m xs ys
+      → judgeBy (upTo (n + 1)) ≡ v
+  judge-next n h d f e = judge-one n h none (sym (ap placeOf f) ∙ e) ∙ d
 
   -- Nothing is left to be judged.
   pub judge-end : (n : ℕ) → 18 < n → earliest ≡ judgeBy (upTo n)

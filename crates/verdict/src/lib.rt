@@ -26,7 +26,8 @@ fn first_fault(
     right: &[u16],
 ) -> Judgement
     requires { ⌜ length (now numbers) ≡ numbersSize ⌝ }
-    ensures { λ r. ⌜ Meant (now (frames .entry)) (now (numbers .entry)) (λ M. verdictOf r ≡ judgeBy (allChecks M (now (marks .entry)) (now (left .entry)) (now (right .entry)))) ⌝ }
+    ensures { λ r. ⌜ Meant (now (frames .entry)) (now (numbers .entry)) (λ M. verdictOf r
+        ≡ judgeBy (allChecks M (now (marks .entry)) (now (left .entry)) (now (right .entry)))) ⌝ }
 {
     let mut number: u8 = 13;
     while number <= 18 {

@@ -18,9 +18,9 @@ use Rattle.form_laws.proofs.Number.{Known, number-same}
 use Rattle.form_laws.proofs.Order.{order-listed, listed-inside}
 use Rattle.form_laws.proofs.Reach.{listed-reached, reached-known}
 use Rattle.layout.specs.Layout.{Opened}
-use Rattle.visit.specs.Visiting.{byRep, mark, Listing}
+use Rattle.visit_queue.specs.Queue.{byRep, mark, Listing}
 use Rattle.visit.specs.Reaches.{Own, Marked, Reaches}
-use Rattle.visit.proofs.Marks.{mark-known, marked-known}
+use Rattle.visit_queue.proofs.Marks.{mark-known, marked-known}
 use Rattle.visit.proofs.Visits.{class-self}
 
 -- One entry more is filled with its value g.

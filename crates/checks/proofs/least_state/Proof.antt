@@ -1,7 +1,7 @@
 -- `least_state` meets its contract. Invariant: the search from q on finds what the whole search finds.
 use native.Mathlib.Omega.{arith}
 use borrow.Author.Needs.{needs}
-use mathlib.Core.Path.{_≡_, sym, ap, _∙_}
+use mathlib.Core.Path.{_≡_, ap}
 use Prim.Native.Nat.{_-_, _≤_}
 use borrow.Author.Tests.{not-true, not-false}
 use Rattle.machine.specs.Machine.{Table}
@@ -13,7 +13,7 @@ use Rattle.checks.proofs.least_state.Tie as tie
 
 abbrev Inv-loop : tie.InvT-loop
 Inv-loop number count marks left right q₀ q =
-    (q ≤ count) × ((M : Table) → least (passesAt number M marks left right) (count - q) q ≡ least (passesAt number M marks left right) count 0)
+    ((M : Table) → least (passesAt number M marks left right) (count - q) q ≡ least (passesAt number M marks left right) count 0) × (q ≤ count)
 
 abbrev μ-loop : tie.MeasureT-loop
 μ-loop number count marks left right q₀ q =
@@ -22,50 +22,36 @@ abbrev μ-loop : tie.MeasureT-loop
 loop-holds : tie.Need-loop-holds Inv-loop μ-loop
 loop-holds c =
     let a = c .before .before .before .args in
-    (omega arith, λ M. ap (λ n. least (passesAt (a .number) M (a .marks .now) (a .left .now) (a .right .now)) n 0) (omega arith))
-
-passes-requires : tie.Need-passes-requires Inv-loop μ-loop
-passes-requires c κs = search needs
+    (λ M. ap (λ n. least (passesAt (a .number) M (a .marks .now) (a .left .now) (a .right .now)) n 0) (omega arith), omega arith)
 
 returns : tie.Need-returns Inv-loop μ-loop
 returns c =
-    let c7 = c .before .before .before .before .before .before .before in
-    let c7 = c7 in
-    let a = c7 .args in
+    let at-entry = c .before .before .before .before .before .before .before in
+    let a = at-entry .args in
     let l = c .before .before .before .loop in
     let p = c .before .passes in
     λ M.
-    let failed = sym (p .ensures M) ∙ not-true (p .result) (c .if1 .taken) in
-    least-here (passesAt (a .number) M (a .marks .now) (a .left .now) (a .right .now)) (a .count) (l .q) (c .before .before .loop-test .taken) failed
-    ∙ l .inv .1 M
-
-add-q : tie.Need-add-q Inv-loop μ-loop
-add-q c = search needs
-
-loop-less : tie.Need-loop-less Inv-loop μ-loop
-loop-less c = search needs
+    least-here (passesAt (a .number) M (a .marks .now) (a .left .now) (a .right .now)) (a .count) (l .q) (l .inv .0 M)
+    (c .before .before .loop-test .taken) (p .ensures M) (not-true (p .result) (c .if1 .taken))
 
 loop-again : tie.Need-loop-again Inv-loop μ-loop
 loop-again c =
-    let c7 = c .before .before .before .before .before .before .before in
-    let c7 = c7 in
-    let a = c7 .args in
+    let at-entry = c .before .before .before .before .before .before .before in
+    let a = at-entry .args in
     let l = c .before .before .before .loop in
     let p = c .before .passes in (
-      omega arith,
       λ M.
-          let passed = sym (p .ensures M) ∙ not-false (p .result) (c .if1 .left) in
-          least-on (passesAt (a .number) M (a .marks .now) (a .left .now) (a .right .now)) (a .count) (l .q) (c .before .before .loop-test .taken) passed
-          ∙ l .inv .1 M,
+          least-on (passesAt (a .number) M (a .marks .now) (a .left .now) (a .right .now)) (a .count) (l .q) (l .inv .0 M)
+          (c .before .before .loop-test .taken) (p .ensures M) (not-false (p .result) (c .if1 .left)),
+      omega arith,
     )
 
 returns-2 : tie.Need-returns-2 Inv-loop μ-loop
 returns-2 c =
-    let c5 = c .before .before .before .before .before in
-    let c5 = c5 in
-    let a = c5 .args in
+    let at-entry = c .before .before .before .before .before in
+    let a = at-entry .args in
     let l = c .before .loop in
-    λ M. least-end (passesAt (a .number) M (a .marks .now) (a .left .now) (a .right .now)) (a .count) (l .q) (omega arith) ∙ l .inv .1 M
+    λ M. least-end (passesAt (a .number) M (a .marks .now) (a .left .now) (a .right .now)) (a .count) (l .q) (l .inv .0 M) (omega arith)
 
 pub least-state-spec : {M : Type 1} → statement M
 least-state-spec =
@@ -74,9 +60,9 @@ least-state-spec =
     Inv-loop
     μ-loop
     loop-holds
-    passes-requires
+    (λ c κs. search needs)
     returns
-    add-q
-    loop-less
+    (λ c. search needs)
+    (λ c. search needs)
     loop-again
     returns-2)

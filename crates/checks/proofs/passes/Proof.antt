@@ -11,43 +11,39 @@ use Rattle.checks.proofs.passes.Tie as tie
 
 returns : tie.Need-returns
 returns c =
-    let c5 = c .before .before .before .before .before in
-    let c5 = c5 in
-    let a = c5 .args in
+    let at-entry = c .before .before .before .before .before in
+    let a = at-entry .args in
     λ M. ap (λ n. not (eqb n 0)) (c .byte .ensures) ∙ sym
     (ap (λ n. passesAt n M (a .marks .now) (a .left .now) (a .right .now) (a .q)) (c .before .match .keys1))
 
 returns-2 : tie.Need-returns-2
 returns-2 c =
-    let c5 = c .before .before .before .before .before in
-    let c5 = c5 in
-    let a = c5 .args in
+    let at-entry = c .before .before .before .before .before in
+    let a = at-entry .args in
     λ M. lives-test (c .kept .result) (getD (a .left .now) (a .q) 0) (c .kept .ensures)
     ∙ sym (ap (λ n. passesAt n M (a .marks .now) (a .left .now) (a .right .now) (a .q)) (c .before .match .keys2))
 
 returns-3 : tie.Need-returns-3
 returns-3 c =
-    let c5 = c .before .before .before .before .before in
-    let c5 = c5 in
-    let a = c5 .args in
+    let at-entry = c .before .before .before .before .before in
+    let a = at-entry .args in
     λ M. clean-test (c .kept2 .result) (getD (a .left .now) (a .q) 0) (c .kept2 .ensures)
     ∙ sym (ap (λ n. passesAt n M (a .marks .now) (a .left .now) (a .right .now) (a .q)) (c .before .match .keys3))
 
 returns-4 : tie.Need-returns-4
 returns-4 c =
-    let c5 = c .before .before .before .before .before in
-    let c5 = c5 in
-    let a = c5 .args in
+    let at-entry = c .before .before .before .before .before in
+    let a = at-entry .args in
     λ M. clean-test (c .kept3 .result) (getD (a .right .now) (a .q) 0) (c .kept3 .ensures)
     ∙ sym (ap (λ n. passesAt n M (a .marks .now) (a .left .now) (a .right .now) (a .q)) (c .before .match .keys4))
 
 returns-5 : tie.Need-returns-5
 returns-5 c =
-    let c4 = c .before .before .before .before in
-    let c4 = c4 in
-    let a = c4 .args in
+    let at-entry = c .before .before .before .before in
+    let a = at-entry .args in
     let rest = c .match .rest in
-    λ M. passes-other (a .number) M (a .marks .now) (a .left .now) (a .right .now) (a .q) (rest .0 .0 .0 .1) (rest .0 .0 .1) (rest .0 .1) (rest .1) (c4 .pre)
+    λ M. passes-other (a .number) M (a .marks .now) (a .left .now) (a .right .now) (a .q) (rest .0 .0 .0 .1) (rest .0 .0 .1) (rest .0 .1) (rest .1)
+    (at-entry .pre)
 
 pub passes-spec : {M : Type 1} → statement M
 passes-spec =

@@ -4,7 +4,8 @@ use Prim.Native.Nat.{ℕ, _-_, _<_, _≤_}
 use native.Mathlib.Omega.{arith}
 use borrow.Author.Needs.{needs}
 use lib.ListN.{length, getD, length-set}
-use Rattle.classes.proofs.Slack.{set-below, zeros-all}
+use Rattle.class_round.proofs.Stores.{set-below}
+use Rattle.classes.proofs.Slack.{zeros-all}
 use Rattle.classes.proofs.clear.Statement.{statement}
 use Rattle.classes.proofs.clear.Tie as tie
 
@@ -14,15 +15,6 @@ Inv-loop rep₀ q₀ rep q = (length rep ≡ length rep₀) × (q ≤ length rep
 abbrev μ-loop : tie.MeasureT-loop
 μ-loop rep₀ q₀ rep q = length rep - q
 
-loop-holds : tie.Need-loop-holds Inv-loop μ-loop
-loop-holds c = search needs
-
-slice-write-rep : tie.Need-slice-write-rep Inv-loop μ-loop
-slice-write-rep c = search needs
-
-add-q : tie.Need-add-q Inv-loop μ-loop
-add-q c = search needs
-
 loop-less : tie.Need-loop-less Inv-loop μ-loop
 loop-less c = simp length-set (omega arith)
 
@@ -30,9 +22,6 @@ loop-again : tie.Need-loop-again Inv-loop μ-loop
 loop-again c =
     let l = c .before .loop in
     (simp length-set (l .inv .0), simp length-set (omega arith), set-below (λ p x. x ≡ 0) (l .rep) (l .q) 0 (c .loop-test .taken) (l .inv .2) refl)
-
-same-length : tie.Need-same-length Inv-loop μ-loop
-same-length c = search needs
 
 returns : tie.Need-returns Inv-loop μ-loop
 returns c = zeros-all (c .before .loop .rep) (λ p h. c .before .loop .inv .2 p (omega arith))
@@ -43,10 +32,10 @@ clear-spec =
     (tie.spec
     Inv-loop
     μ-loop
-    loop-holds
-    slice-write-rep
-    add-q
+    (λ c. search needs)
+    (λ c. search needs)
+    (λ c. search needs)
     loop-less
     loop-again
-    same-length
+    (λ c. search needs)
     returns)

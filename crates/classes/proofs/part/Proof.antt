@@ -8,17 +8,17 @@ use Rattle.classes.proofs.part.Tie as tie
 
 returns : tie.Need-returns
 returns c =
-    let c8 = c .before .before .before .before .before .before .before .before in
+    let at-entry = c .before .before .before .before .before .before .before .before in
     let z = c .before .before .before .clear in
-    let long = z .kept .0 ∙ c8 .pre in
+    let long = z .kept .0 ∙ at-entry .pre in
     (numbered (z .last .0) long (λ q. omega (arith, z .ensures q)), λ M o. absurd (c .if1 .taken (o .numbers)))
 
 returns-2 : tie.Need-returns-2
 returns-2 c =
-    let c4 = c .before .before .before .before in
-    let c13 = c4 .before .before .before .before .before .before .before .before .before in
+    let at-states = c .before .before .before .before in
+    let at-entry = at-states .before .before .before .before .before .before .before .before .before in
     let h = c .before .before .rounds .ensures in
-    (h .0, λ M o. h .1 M o (c4 .states .ensures .1 (c13 .args .frames .now) M o))
+    (h .0, λ M o. h .1 M o (at-states .states .ensures .1 (at-entry .args .frames .now) M o))
 
 pub part-spec : {M : Type 1} → statement M
 part-spec =

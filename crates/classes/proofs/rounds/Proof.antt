@@ -6,7 +6,8 @@ use lib.ListN.{length}
 use Rattle.machine.specs.Machine.{Table}
 use Rattle.text.specs.Limits.{statesMost}
 use Rattle.layout.specs.Layout.{Opened}
-use Rattle.classes.specs.Rounds.{Begun, Low, slack}
+use Rattle.class_round.specs.Round.{RoundBegun, Low}
+use Rattle.classes.specs.Taking.{slack}
 use Rattle.classes.proofs.Slack.{adopted-low, numbered}
 use Rattle.classes.proofs.Settled.{Together, together-none, together-more, shapes-more, settled}
 use borrow.Author.Needs.{needs}
@@ -16,7 +17,7 @@ use Rattle.classes.proofs.rounds.Tie as tie
 abbrev Inv-loop : tie.InvT-loop
 Inv-loop frames numbers n rep₀ next₀ first₀ rep next first =
     (length next ≡ statesMost) × (length rep ≡ statesMost) × Low rep × ((M : Table) → Opened frames numbers M → n ≡ M .states → Together M rep)
-    × ((M : Table) → Opened frames numbers M → n ≡ M .states → Begun first M n rep)
+    × ((M : Table) → Opened frames numbers M → n ≡ M .states → RoundBegun first M n rep)
 
 abbrev μ-loop : tie.MeasureT-loop
 μ-loop frames numbers n rep₀ next₀ first₀ rep next first = slack rep
@@ -34,12 +35,12 @@ loop-holds c =
 
 loop-again : tie.Need-loop-again Inv-loop μ-loop
 loop-again c =
-    let c7 = c .before .before .before .before .before .before .before in
-    let c10 = c7 .before .before .before in
-    let l = c10 .loop in
-    let w = c7 .round .ensures in
+    let at-round = c .before .before .before .before .before .before .before in
+    let at-loop = at-round .before .before .before in
+    let l = at-loop .loop in
+    let w = at-round .round .ensures in
     let d = c .before .before .before .adopt .ensures in (
-      c7 .round .kept .1 .1 .1 .1 .1 .0 ∙ l .inv .0,
+      at-round .round .kept .1 .1 .1 .1 .1 .0 ∙ l .inv .0,
       d .long ∙ l .inv .1,
       adopted-low d (l .inv .2) (w .0),
       λ M o e. together-more (o .limited .made) e (l .inv .3 M o e) (w .1 M o e (l .inv .4 M o e)) d,
@@ -48,10 +49,10 @@ loop-again c =
 
 returns : tie.Need-returns Inv-loop μ-loop
 returns c =
-    let c7 = c .before .before .before .before .before .before .before in
-    let c10 = c7 .before .before .before in
-    let l = c10 .loop in
-    let w = c7 .round .ensures in
+    let at-round = c .before .before .before .before .before .before .before in
+    let at-loop = at-round .before .before .before in
+    let l = at-loop .loop in
+    let w = at-round .round .ensures in
     let d = c .before .before .before .adopt .ensures in (
       numbered (c .before .before .before .adopt .last .1 .1 .0) (d .long ∙ l .inv .1) (adopted-low d (l .inv .2) (w .0)),
       λ M o e. settled (o .limited .made) e (l .inv .3 M o e) (w .1 M o e (l .inv .4 M o e)) d (d .still (c .if1 .taken)),

@@ -20,56 +20,38 @@ abbrev μ-loop : tie.MeasureT-loop
 μ-loop x values kids j₀ j =
     kids - j
 
-kids-in-requires : tie.Need-kids-in-requires Inv-loop μ-loop
-kids-in-requires c κs = search needs
-
 loop-holds : tie.Need-loop-holds Inv-loop μ-loop
 loop-holds c =
     λ i r h. (c .kids-in .ensures .1 i r h, λ j l. absurd (omega arith))
 
-child-in-requires : tie.Need-child-in-requires Inv-loop μ-loop
-child-in-requires c κs = search needs
-
-mul-if1 : tie.Need-mul-if1 Inv-loop μ-loop
-mul-if1 c = search needs
-
-shared-slice-read-if1 : tie.Need-shared-slice-read-if1 Inv-loop μ-loop
-shared-slice-read-if1 c = search needs
-
 returns : tie.Need-returns Inv-loop μ-loop
 returns c =
-    let c4 = c .before .before .before .before in
-    let c7 = c4 .before .before .before in
-    let xs = c7 .args .values .now in
+    let at-loop = c .before .before .before .before in
+    let at-entry = at-loop .before .before .before in
+    let xs = at-entry .args .values .now in
     λ i r h.
-    let v = c4 .loop .inv i r h in
-    let less : c4 .loop .j < length (r .rest) = omega (arith, v .0, c .before .before .before .loop-test .taken) in
+    let v = at-loop .loop .inv i r h in
+    let less : at-loop .loop .j < length (r .rest) = omega (arith, v .0, c .before .before .before .loop-test .taken) in
     let state = c .before .before .child-in .ensures .1 i r h less in
-    told-no (one-lacks xs (r .rest) (c4 .loop .j) less (ap (λ q. getD xs q 0) (sym state) ∙ c .if1 .taken))
-
-add-j : tie.Need-add-j Inv-loop μ-loop
-add-j c = search needs
-
-loop-less : tie.Need-loop-less Inv-loop μ-loop
-loop-less c = search needs
+    told-no (one-lacks xs (r .rest) (at-loop .loop .j) less (ap (λ q. getD xs q 0) (sym state) ∙ c .if1 .taken))
 
 loop-again : tie.Need-loop-again Inv-loop μ-loop
 loop-again c =
-    let c4 = c .before .before .before .before in
-    let c7 = c4 .before .before .before in
-    let xs = c7 .args .values .now in
+    let at-loop = c .before .before .before .before in
+    let at-entry = at-loop .before .before .before in
+    let xs = at-entry .args .values .now in
     λ i r h.
-    let v = c4 .loop .inv i r h in
+    let v = at-loop .loop .inv i r h in
     let state = c .before .before .child-in .ensures .1 i r h (omega (arith, v .0, c .before .before .before .loop-test .taken)) in
-    let kept : getD xs (stateNo (r .rest) (c4 .loop .j)) 0 ≡ 0 → ⊥ = λ z. c .if1 .left (ap (λ q. getD xs q 0) state ∙ z) in
-    (v .0, below-more (λ (j : ℕ). getD xs (stateNo (r .rest) j) 0 ≡ 0 → ⊥) (c4 .loop .j) (v .1) kept)
+    let kept : getD xs (stateNo (r .rest) (at-loop .loop .j)) 0 ≡ 0 → ⊥ = λ z. c .if1 .left (ap (λ q. getD xs q 0) state ∙ z) in
+    (v .0, below-more (λ (j : ℕ). getD xs (stateNo (r .rest) j) 0 ≡ 0 → ⊥) (at-loop .loop .j) (v .1) kept)
 
 returns-2 : tie.Need-returns-2 Inv-loop μ-loop
 returns-2 c =
-    let c4 = c .before .before .before .before in
+    let at-entry = c .before .before .before .before in
     λ i r h.
     let v = c .before .loop .inv i r h in
-    told-yes (all-kept (c4 .args .values .now) (r .rest) (c .before .loop .j) (omega (arith, v .0, c .loop-test .left)) (v .1))
+    told-yes (all-kept (at-entry .args .values .now) (r .rest) (c .before .loop .j) (omega (arith, v .0, c .loop-test .left)) (v .1))
 
 pub all-blank-spec : {M : Type 1} → statement M
 all-blank-spec =
@@ -77,13 +59,13 @@ all-blank-spec =
     (tie.spec
     Inv-loop
     μ-loop
-    kids-in-requires
+    (λ c κs. search needs)
     loop-holds
-    child-in-requires
-    mul-if1
-    shared-slice-read-if1
+    (λ c κs. search needs)
+    (λ c. search needs)
+    (λ c. search needs)
     returns
-    add-j
-    loop-less
+    (λ c. search needs)
+    (λ c. search needs)
     loop-again
     returns-2)

@@ -16,22 +16,22 @@ returns c =
 
 returns-2 : tie.Need-returns-2
 returns-2 c =
-    let c5 = c .before .before .before .before .before in
-    let xs = c5 .args .values .now in
+    let at-entry = c .before .before .before .before .before in
+    let xs = at-entry .args .values .now in
     (grown-none xs, λ F M o. marked-none xs (λ p h e b z. c .if2 .taken (ap (λ i. getD xs i 0) (sym e) ∙ z)))
 
 returns-3 : tie.Need-returns-3
 returns-3 c =
-    let c8 = c .before .before .before .before .before .before .before .before in
-    let a = c8 .args in (
+    let at-entry = c .before .before .before .before .before .before .before .before in
+    let a = at-entry .args in (
       grown-blank (a .values .now) (a .q) (omega arith) (c .before .before .before .if2 .left),
       λ F M o. marked-one (a .values .now) (a .q) (omega arith) (o .limited .made .rising) (c .before .has-blank .ensures F M o .if-true (c .if3 .taken)),
     )
 
 returns-4 : tie.Need-returns-4
 returns-4 c =
-    let c8 = c .before .before .before .before .before .before .before .before in
-    let xs = c8 .args .values .now in (
+    let at-entry = c .before .before .before .before .before .before .before .before in
+    let xs = at-entry .args .values .now in (
       grown-none xs,
       λ F M o. marked-none xs (λ p h e b z. c .before .has-blank .ensures F M o .if-false (c .if3 .left) (subst (λ i. BlankOf M xs i) e b)),
     )

@@ -30,33 +30,33 @@ loop-holds c =
 
 blank-states-requires : tie.Need-blank-states-requires Inv-loop μ-loop
 blank-states-requires c κs =
-    let c5 = c .before .before .before .before .before in
-    (c5 .pre .0, c .before .loop .inv .0)
+    let at-entry = c .before .before .before .before .before in
+    (at-entry .pre .0, c .before .loop .inv .0)
 
 loop-less : tie.Need-loop-less Inv-loop μ-loop
 loop-less c =
-    let c5 = c .before .before .before .before .before in
-    grown-less (c .before .before .before .blank-states .ensures .0) (c5 .loop .inv .0) (λ z. omega arith)
+    let at-loop = c .before .before .before .before .before in
+    grown-less (c .before .before .before .blank-states .ensures .0) (at-loop .loop .inv .0) (λ z. omega arith)
 
 loop-again : tie.Need-loop-again Inv-loop μ-loop
 loop-again c =
-    let c5 = c .before .before .before .before .before in
+    let at-loop = c .before .before .before .before .before in
     let s = c .before .before .before .blank-states .ensures in
-    (s .0 .long ∙ c5 .loop .inv .0, λ F M o. s .1 F M o .keeps (c5 .loop .inv .1 F M o))
+    (s .0 .long ∙ at-loop .loop .inv .0, λ F M o. s .1 F M o .keeps (at-loop .loop .inv .1 F M o))
 
 same-length : tie.Need-same-length Inv-loop μ-loop
 same-length c =
-    let c5 = c .before .before .before .before .before in
-    let c9 = c5 .before .before .before .before in
-    c .before .before .before .blank-states .ensures .0 .long ∙ c5 .loop .inv .0 ∙ sym (c9 .pre .1)
+    let at-loop = c .before .before .before .before .before in
+    let at-entry = at-loop .before .before .before .before in
+    c .before .before .before .blank-states .ensures .0 .long ∙ at-loop .loop .inv .0 ∙ sym (at-entry .pre .1)
 
 returns : tie.Need-returns Inv-loop μ-loop
 returns c =
-    let c5 = c .before .before .before .before .before in
-    let c9 = c5 .before .before .before .before in
-    let a = c9 .args in
+    let at-loop = c .before .before .before .before .before in
+    let at-entry = at-loop .before .before .before .before in
+    let a = at-entry .args in
     let s = c .before .before .before .blank-states .ensures in
-    let l = c5 .loop in (
+    let l = at-loop .loop in (
       s .0 .long ∙ l .inv .0,
       (
         λ F M o. s .1 F M o .keeps (l .inv .1 F M o),

@@ -20,25 +20,16 @@ abbrev μ-loop : tie.MeasureT-loop
 μ-loop numbers q values to i₀ i =
     to - i
 
-rules-in-requires : tie.Need-rules-in-requires Inv-loop μ-loop
-rules-in-requires c κs = search needs
-
 loop-holds : tie.Need-loop-holds Inv-loop μ-loop
 loop-holds c =
     (omega arith, c .rules-in .ensures .0 .0, λ F M o. (c .rules-in .ensures .1 F M o, λ j row e a b. absurd (omega arith)))
 
-kept-at-requires : tie.Need-kept-at-requires Inv-loop μ-loop
-kept-at-requires c κs = search needs
-
-blank-rule-requires : tie.Need-blank-rule-requires Inv-loop μ-loop
-blank-rule-requires c κs = search needs
-
 returns : tie.Need-returns Inv-loop μ-loop
 returns c =
-    let c4 = c .before .before .before .before in
-    let c8 = c4 .before .before .before .before in
-    let xs = c8 .args .values .now in
-    let l = c4 .loop in
+    let at-loop = c .before .before .before .before in
+    let at-entry = at-loop .before .before .before .before in
+    let xs = at-entry .args .values .now in
+    let l = at-loop .loop in
     let b = c .before .blank-rule in
     λ F M o.
     let v = l .inv .2 F M o in
@@ -46,18 +37,12 @@ returns c =
     (one-found M xs _ (v .0) (l .i) (l .inv .0) (c .before .before .before .loop-test .taken)
     (λ row e. b .ensures (l .i) (row .rule) (c .before .before .kept-at .ensures F M row o e) .if-true (c .if1 .taken)))
 
-add-i : tie.Need-add-i Inv-loop μ-loop
-add-i c = search needs
-
-loop-less : tie.Need-loop-less Inv-loop μ-loop
-loop-less c = search needs
-
 loop-again : tie.Need-loop-again Inv-loop μ-loop
 loop-again c =
-    let c4 = c .before .before .before .before in
-    let c8 = c4 .before .before .before .before in
-    let xs = c8 .args .values .now in
-    let l = c4 .loop in
+    let at-loop = c .before .before .before .before in
+    let at-entry = at-loop .before .before .before .before in
+    let xs = at-entry .args .values .now in
+    let l = at-loop .loop in
     let b = c .before .blank-rule in (
       omega (arith, l .inv .0),
       l .inv .1,
@@ -71,10 +56,10 @@ loop-again c =
 
 returns-2 : tie.Need-returns-2 Inv-loop μ-loop
 returns-2 c =
-    let c5 = c .before .before .before .before .before in
+    let at-entry = c .before .before .before .before .before in
     λ F M o.
     let v = c .before .loop .inv .2 F M o in
-    told-no (none-found M (c5 .args .values .now) _ (v .0) (c .before .loop .i) (c .loop-test .left) (v .1))
+    told-no (none-found M (at-entry .args .values .now) _ (v .0) (c .before .loop .i) (c .loop-test .left) (v .1))
 
 pub has-blank-spec : {M : Type 1} → statement M
 has-blank-spec =
@@ -82,12 +67,12 @@ has-blank-spec =
     (tie.spec
     Inv-loop
     μ-loop
-    rules-in-requires
+    (λ c κs. search needs)
     loop-holds
-    kept-at-requires
-    blank-rule-requires
+    (λ c κs. search needs)
+    (λ c κs. search needs)
     returns
-    add-i
-    loop-less
+    (λ c. search needs)
+    (λ c. search needs)
     loop-again
     returns-2)

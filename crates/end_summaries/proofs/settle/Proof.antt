@@ -27,44 +27,44 @@ abbrev μ-loop : tie.MeasureT-loop
 
 loop-holds : tie.Need-loop-holds Inv-loop μ-loop
 loop-holds c =
-    let c4 = c .before .before .before .before in
-    (c4 .pre .1, λ M o. (λ W. W, λ T. T))
+    let at-entry = c .before .before .before .before in
+    (at-entry .pre .1, λ M o. (λ W. W, λ T. T))
 
 add-states-requires : tie.Need-add-states-requires Inv-loop μ-loop
 add-states-requires c κs =
-    let c6 = c .before .before .before .before .before .before in
-    (c6 .pre .0, c .before .loop .inv .0)
+    let at-entry = c .before .before .before .before .before .before in
+    (at-entry .pre .0, c .before .loop .inv .0)
 
 loop-less : tie.Need-loop-less Inv-loop μ-loop
 loop-less c =
-    let c5 = c .before .before .before .before .before in
-    grown-less (c .before .before .before .add-states .ensures .0) (c5 .loop .inv .0) (λ z. omega (arith, z, c .if1 .left))
+    let at-loop = c .before .before .before .before .before in
+    grown-less (c .before .before .before .add-states .ensures .0) (at-loop .loop .inv .0) (λ z. omega (arith, z, c .if1 .left))
 
 loop-again : tie.Need-loop-again Inv-loop μ-loop
 loop-again c =
-    let c5 = c .before .before .before .before .before in
-    let c10 = c5 .before .before .before .before .before in
-    let side = sideOf (c10 .args .side) in
+    let at-loop = c .before .before .before .before .before in
+    let at-entry = at-loop .before .before .before .before .before in
+    let side = sideOf (at-entry .args .side) in
     let s = c .before .before .before .add-states .ensures in
-    let l = c5 .loop .inv in (
+    let l = at-loop .loop .inv in (
       s .0 .long ∙ l .0,
       λ M o. (λ W. tried-witnessed M side (s .1 M o) (l .1 M o .0 W), λ T. tried-told M side (s .1 M o) (l .1 M o .1 T)),
     )
 
 same-length : tie.Need-same-length Inv-loop μ-loop
 same-length c =
-    let c5 = c .before .before .before .before .before in
-    let c10 = c5 .before .before .before .before .before in
-    c .before .before .before .add-states .ensures .0 .long ∙ c5 .loop .inv .0 ∙ sym (c10 .pre .1)
+    let at-loop = c .before .before .before .before .before in
+    let at-entry = at-loop .before .before .before .before .before in
+    c .before .before .before .add-states .ensures .0 .long ∙ at-loop .loop .inv .0 ∙ sym (at-entry .pre .1)
 
 returns : tie.Need-returns Inv-loop μ-loop
 returns c =
-    let c5 = c .before .before .before .before .before in
-    let c10 = c5 .before .before .before .before .before in
-    let a = c10 .args in
+    let at-loop = c .before .before .before .before .before in
+    let at-entry = at-loop .before .before .before .before .before in
+    let a = at-entry .args in
     let side = sideOf (a .side) in
     let s = c .before .before .before .add-states .ensures in
-    let l = c5 .loop .inv in
+    let l = at-loop .loop .inv in
     record {
       shown = λ M o W. tried-witnessed M side (s .1 M o) (l .1 M o .0 W);
       fits = λ M o listed R.

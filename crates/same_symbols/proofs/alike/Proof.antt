@@ -24,26 +24,26 @@ loop-holds c = (omega arith, λ I J M N o p l m j h. absurd (omega arith))
 
 returns : tie.Need-returns Inv-loop μ-loop
 returns c =
-    let c4 = c .before .before .before .before in
+    let at-loop = c .before .before .before .before in
     let below = c .before .before .before .loop-test .taken in
     let one = c .before .before .arity .ensures .1 in
     let other = c .before .arity2 .ensures .1 in
     λ I J M N o p l m.
     record {
-      most = c4 .loop .inv .0;
-      same = c4 .loop .inv .1 I J M N o p l m;
+      most = at-loop .loop .inv .0;
+      same = at-loop .loop .inv .1 I J M N o p l m;
       apart = λ h e. c .if1 .taken (one I M o (omega (arith, below, l)) ∙ e ∙ sym (other J N p (omega (arith, below, m))));
     }
 
 loop-again : tie.Need-loop-again Inv-loop μ-loop
 loop-again c =
-    let c4 = c .before .before .before .before in
+    let at-loop = c .before .before .before .before in
     let below = c .before .before .before .loop-test .taken in
     let one = c .before .before .arity .ensures .1 in
     let other = c .before .arity2 .ensures .1 in (
       omega arith,
       λ I J M N o p l m.
-          below-more (λ (j : ℕ). getD (M .arities) j 0 ≡ getD (N .arities) j 0) (c4 .loop .i) (c4 .loop .inv .1 I J M N o p l m)
+          below-more (λ (j : ℕ). getD (M .arities) j 0 ≡ getD (N .arities) j 0) (at-loop .loop .i) (at-loop .loop .inv .1 I J M N o p l m)
           (sym (one I M o (omega (arith, below, l))) ∙ c .if1 .left ∙ other J N p (omega (arith, below, m))),
     )
 

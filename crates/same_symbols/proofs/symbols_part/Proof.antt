@@ -9,39 +9,39 @@ use Rattle.same_symbols.proofs.symbols_part.Tie as tie
 
 returns : tie.Need-returns
 returns c =
-    let c4 = c .before .before .before .before in
-    let c9 = c4 .before .before .before .before .before in
-    let u = c9 .args in
+    let at-symbols = c .before .before .before .before in
+    let at-entry = at-symbols .before .before .before .before .before in
+    let u = at-entry .args in
     let l = c .before .before .lesser .ensures in
     λ M N o p.
-    let m = c4 .symbols .ensures .1 (u .frames .now) M o in
+    let m = at-symbols .symbols .ensures .1 (u .frames .now) M o in
     let n = c .before .before .before .symbols2 .ensures .1 (u .frames2 .now) N p in
     let a = c .before .alike .ensures (u .numbers .now) (u .numbers2 .now) M N o p (omega (arith, m, l .first)) (omega (arith, n, l .second)) in
     sym (parted-at m n l a (inl (c .if1 .taken)))
 
 returns-2 : tie.Need-returns-2
 returns-2 c =
-    let c4 = c .before .before .before .before in
-    let c5 = c4 .before in
-    let c10 = c5 .before .before .before .before .before in
-    let u = c10 .args in
+    let at-symbols2 = c .before .before .before .before in
+    let at-symbols = at-symbols2 .before in
+    let at-entry = at-symbols .before .before .before .before .before in
+    let u = at-entry .args in
     let l = c .before .before .before .lesser .ensures in
     λ M N o p.
-    let m = c5 .symbols .ensures .1 (u .frames .now) M o in
-    let n = c4 .symbols2 .ensures .1 (u .frames2 .now) N p in
+    let m = at-symbols .symbols .ensures .1 (u .frames .now) M o in
+    let n = at-symbols2 .symbols2 .ensures .1 (u .frames2 .now) N p in
     let a = c .before .before .alike .ensures (u .numbers .now) (u .numbers2 .now) M N o p (omega (arith, m, l .first)) (omega (arith, n, l .second)) in
     sym (parted-at m n l a (inr (c .if2 .taken)))
 
 returns-3 : tie.Need-returns-3
 returns-3 c =
-    let c4 = c .before .before .before .before in
-    let c5 = c4 .before in
-    let c10 = c5 .before .before .before .before .before in
-    let u = c10 .args in
+    let at-symbols2 = c .before .before .before .before in
+    let at-symbols = at-symbols2 .before in
+    let at-entry = at-symbols .before .before .before .before .before in
+    let u = at-entry .args in
     let l = c .before .before .before .lesser .ensures in
     λ M N o p.
-    let m = c5 .symbols .ensures .1 (u .frames .now) M o in
-    let n = c4 .symbols2 .ensures .1 (u .frames2 .now) N p in
+    let m = at-symbols .symbols .ensures .1 (u .frames .now) M o in
+    let n = at-symbols2 .symbols2 .ensures .1 (u .frames2 .now) N p in
     let a = c .before .before .alike .ensures (u .numbers .now) (u .numbers2 .now) M N o p (omega (arith, m, l .first)) (omega (arith, n, l .second)) in
     sym (parted-nowhere m n l a (c .before .if1 .left) (c .if2 .left))
 

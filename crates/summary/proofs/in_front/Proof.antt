@@ -16,20 +16,18 @@ returns-3 c = front-first (c .before .before .before .args .x) (c .before .befor
 
 returns-4 : tie.Need-returns-4
 returns-4 c =
-    let c4 = c .before .before .before .before in
-    let c4 = c4 in
-    let c5 = c4 .before in
-    let a = c5 .args in
-    front-second (a .x) (a .y) (c4 .if1 .left) (c .before .before .before .if2 .left) (c .before .letters-joined .result)
+    let at-if1 = c .before .before .before .before in
+    let at-entry = at-if1 .before in
+    let a = at-entry .args in
+    front-second (a .x) (a .y) (at-if1 .if1 .left) (c .before .before .before .if2 .left) (c .before .letters-joined .result)
     (c .before .letters-joined .ensures .1) (c .before .letters-joined .ensures .0) (c .before .before .if3 .left) (c .if4 .taken)
 
 returns-5 : tie.Need-returns-5
 returns-5 c =
-    let c4 = c .before .before .before .before in
-    let c4 = c4 in
-    let c5 = c4 .before in
-    let a = c5 .args in
-    front-blank (a .x) (a .y) (c4 .if1 .left) (c .before .before .before .if2 .left) (c .before .letters-joined .result)
+    let at-if1 = c .before .before .before .before in
+    let at-entry = at-if1 .before in
+    let a = at-entry .args in
+    front-blank (a .x) (a .y) (at-if1 .if1 .left) (c .before .before .before .if2 .left) (c .before .letters-joined .result)
     (c .before .letters-joined .ensures .1) (c .before .letters-joined .ensures .0) (c .before .before .if3 .left) (c .if4 .left)
 
 pub in-front-spec : {M : Type 1} → statement M

@@ -1,12 +1,12 @@
 -- `first_fault` meets its contract. Invariant: the checks from this number on judge what all judge.
 use native.Mathlib.Omega.{arith}
 use borrow.Author.Needs.{needs}
-use mathlib.Core.Path.{_≡_, sym, ap, _∙_}
+use mathlib.Core.Path.{_≡_, _∙_}
 use Prim.Native.Nat.{_-_, _≤_}
 use Rattle.machine.specs.Machine.{Table}
 use Rattle.end_laws.specs.Companion.{judgeBy}
 use Rattle.layout.specs.Layout.{Opened}
-use Rattle.checks.specs.Checks.{placeOf, allChecks}
+use Rattle.checks.specs.Checks.{allChecks}
 use Rattle.verdict.proofs.Order.{upTo, from-first, judge-found, judge-next, judge-end}
 use Rattle.verdict.proofs.first_fault.Statement.{statement}
 use Rattle.verdict.proofs.first_fault.Tie as tie
@@ -22,54 +22,40 @@ abbrev μ-loop : tie.MeasureT-loop
 
 loop-holds : tie.Need-loop-holds Inv-loop μ-loop
 loop-holds c =
-    let c5 = c .before .before .before .before .before in
-    let a = c5 .args in
+    let at-entry = c .before .before .before .before .before in
+    let a = at-entry .args in
     (omega arith, omega arith, λ M o. from-first M (a .marks .now) (a .left .now) (a .right .now))
-
-place-of-fault-requires : tie.Need-place-of-fault-requires Inv-loop μ-loop
-place-of-fault-requires c κs = search needs
-
-enum-known-found : tie.Need-enum-known-found Inv-loop μ-loop
-enum-known-found c = search needs
 
 returns : tie.Need-returns Inv-loop μ-loop
 returns c =
-    let c4 = c .before .before .before .before in
-    let c5 = c4 .before in
-    let c11 = c5 .before .before .before .before .before .before in
-    let a = c11 .args in
-    let l = c5 .loop in
+    let at-loop-test = c .before .before .before .before in
+    let at-loop = at-loop-test .before in
+    let at-entry = at-loop .before .before .before .before .before .before in
+    let a = at-entry .args in
+    let l = at-loop .loop in
     let found = c .before .found .given in
+    let told = c .before .before .before .place-of-fault .ensures in
     λ M o.
-    let place = sym (ap placeOf (found .1)) ∙ c .before .before .before .place-of-fault .ensures M o in
-    judge-found M (a .marks .now) (a .left .now) (a .right .now) (l .number) (c4 .loop-test .taken) (found .0 .0) place ∙ l .inv .2 M o
-
-enum-told : tie.Need-enum-told Inv-loop μ-loop
-enum-told c = search needs
-
-add-number : tie.Need-add-number Inv-loop μ-loop
-add-number c = search needs
-
-loop-less : tie.Need-loop-less Inv-loop μ-loop
-loop-less c = search needs
+    judge-found M (a .marks .now) (a .left .now) (a .right .now) (l .number) (at-loop-test .loop-test .taken) (l .inv .2 M o)
+    (found .0 .0) (found .1) (told M o)
 
 loop-again : tie.Need-loop-again Inv-loop μ-loop
 loop-again c =
-    let c4 = c .before .before .before .before in
-    let c10 = c4 .before .before .before .before .before .before in
-    let a = c10 .args in
-    let l = c4 .loop in (
+    let at-loop = c .before .before .before .before in
+    let at-entry = at-loop .before .before .before .before .before .before in
+    let a = at-entry .args in
+    let l = at-loop .loop in (
       omega arith,
       omega arith,
       λ M o.
-          let none = sym (ap placeOf (c .enum-told .given .1)) ∙ c .before .before .place-of-fault .ensures M o in
-          judge-next M (a .marks .now) (a .left .now) (a .right .now) (l .number) (c .before .before .before .loop-test .taken) none ∙ l .inv .2 M o,
+          judge-next M (a .marks .now) (a .left .now) (a .right .now) (l .number) (c .before .before .before .loop-test .taken) (l .inv .2 M o)
+          (c .enum-told .given .1) (c .before .before .place-of-fault .ensures M o),
     )
 
 returns-2 : tie.Need-returns-2 Inv-loop μ-loop
 returns-2 c =
-    let c7 = c .before .before .before .before .before .before .before in
-    let a = c7 .args in
+    let at-entry = c .before .before .before .before .before .before .before in
+    let a = at-entry .args in
     let l = c .before .loop in
     λ M o. judge-end M (a .marks .now) (a .left .now) (a .right .now) (l .number) (omega arith) ∙ l .inv .2 M o
 
@@ -80,11 +66,11 @@ first-fault-spec =
     Inv-loop
     μ-loop
     loop-holds
-    place-of-fault-requires
-    enum-known-found
+    (λ c κs. search needs)
+    (λ c. search needs)
     returns
-    enum-told
-    add-number
-    loop-less
+    (λ c. search needs)
+    (λ c. search needs)
+    (λ c. search needs)
     loop-again
     returns-2)

@@ -17,22 +17,22 @@ reach-requires c κs =
 
 blanks-requires : tie.Need-blanks-requires
 blanks-requires c κs =
-    let c7 = c .before .before .before .before .before .before .before in
-    (c7 .if1 .left, length-replicate {A = ℕ} statesMost 0, begun-zeros)
+    let at-if1 = c .before .before .before .before .before .before .before in
+    (at-if1 .if1 .left, length-replicate {A = ℕ} statesMost 0, begun-zeros)
 
 returns-2 : tie.Need-returns-2
 returns-2 c =
-    let c5 = c .before .before .before .before .before in
-    let c9 = c5 .before .before .before .before in
-    let c13 = c9 .before .before .before .before in
-    let c18 = c13 .before .before .before .before .before in
-    let b = c13 .blanks .ensures .1 in
+    let at-settle2 = c .before .before .before .before .before in
+    let at-settle = at-settle2 .before .before .before .before in
+    let at-blanks = at-settle .before .before .before .before in
+    let at-reach = at-blanks .before .before .before .before .before in
+    let b = at-blanks .blanks .ensures .1 in
     done-judged record {
-      reaches = c18 .reach .ensures .1;
+      reaches = at-reach .reach .ensures .1;
       blanks = b .0;
       empties = b .1;
-      lefts = c9 .settle .ensures;
-      rights = c5 .settle2 .ensures;
+      lefts = at-settle .settle .ensures;
+      rights = at-settle2 .settle2 .ensures;
       verdict = c .first-fault .ensures;
     }
 

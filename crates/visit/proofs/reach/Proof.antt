@@ -7,18 +7,20 @@ use Rattle.visit.proofs.reach.Tie as tie
 
 visit-requires : tie.Need-visit-requires
 visit-requires c κs =
-    let c4 = c .before .before .before .before in
-    let c9 = c4 .before .before .before .before .before in
-    (omega (arith, c9 .pre .0), λ q. omega (arith, c9 .pre .1, own-low (c4 .make-own .last .0) (search needs) (c4 .make-own .ensures) q))
+    let at-make-own = c .before .before .before .before in
+    let at-entry = at-make-own .before .before .before .before .before in
+    let own = at-make-own .make-own in
+    (omega (arith, at-entry .pre .0), λ q. omega (arith, at-entry .pre .1, own-low (own .last .0) (search needs) (own .ensures) q))
 
 returns : tie.Need-returns
 returns c =
-    let c4 = c .before .before .before .before in
-    let c9 = c4 .before .before .before .before .before in
-    let c14 = c9 .before .before .before .before .before in
-    let own = c9 .make-own in
-    let call = c4 .visit in
-    (call .ensures .0, λ F M o. reaches o (own .last .0) (own .ensures) (omega (arith, c14 .pre .1, call .kept)) (call .ensures .1 F M o (c14 .pre .2)))
+    let at-visit = c .before .before .before .before in
+    let at-make-own = at-visit .before .before .before .before .before in
+    let at-entry = at-make-own .before .before .before .before .before in
+    let own = at-make-own .make-own in
+    let call = at-visit .visit in
+    let marks = at-entry .pre .1 in
+    (call .ensures .0, λ F M o. reaches o (own .last .0) (own .ensures) (omega (arith, marks, call .kept)) (call .ensures .1 F M o (at-entry .pre .2)))
 
 pub reach-spec : {M : Type 1} → statement M
 reach-spec =

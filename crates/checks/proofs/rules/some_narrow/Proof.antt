@@ -21,32 +21,16 @@ loop-holds : tie.Need-loop-holds Inv-loop μ-loop
 loop-holds c =
     λ p l. absurd (omega arith)
 
-mul-narrow : tie.Need-mul-narrow Inv-loop μ-loop
-mul-narrow c = search needs
-
-shared-slice-read-narrow : tie.Need-shared-slice-read-narrow Inv-loop μ-loop
-shared-slice-read-narrow c = search needs
-
-narrow-requires : tie.Need-narrow-requires Inv-loop μ-loop
-narrow-requires c κs = search needs
-
 returns : tie.Need-returns Inv-loop μ-loop
 returns c =
     λ e. absurd (true≢false e)
 
-add-q : tie.Need-add-q Inv-loop μ-loop
-add-q c = search needs
-
-loop-less : tie.Need-loop-less Inv-loop μ-loop
-loop-less c = search needs
-
 loop-again : tie.Need-loop-again Inv-loop μ-loop
 loop-again c =
-    let c4 = c .before .before .before .before in
-    let c4 = c4 in
-    let c6 = c4 .before .before in
-    let l = c4 .loop in
-    let xs : List ℕ = c6 .args .left .now in
+    let at-loop = c .before .before .before .before in
+    let at-entry = at-loop .before .before in
+    let l = at-loop .loop in
+    let xs : List ℕ = at-entry .args .left .now in
     firm-next xs (l .q) (l .inv) (c .before .narrow .ensures (c .if1 .left))
 
 returns-2 : tie.Need-returns-2 Inv-loop μ-loop
@@ -61,11 +45,11 @@ some-narrow-spec =
     Inv-loop
     μ-loop
     loop-holds
-    mul-narrow
-    shared-slice-read-narrow
-    narrow-requires
+    (λ c. search needs)
+    (λ c. search needs)
+    (λ c κs. search needs)
     returns
-    add-q
-    loop-less
+    (λ c. search needs)
+    (λ c. search needs)
     loop-again
     returns-2)

@@ -13,13 +13,13 @@ returns c =
 
 returns-2 : tie.Need-returns-2
 returns-2 c =
-    let c4 = c .before .before .before .before in
-    λ u cs s e. stuck-none (decode (c4 .args .x)) u (c4 .args .n) e (c .if2 .taken)
+    let at-entry = c .before .before .before .before in
+    λ u cs s e. stuck-none (decode (at-entry .args .x)) u (at-entry .args .n) e (c .if2 .taken)
 
 returns-3 : tie.Need-returns-3
 returns-3 c =
-    let c6 = c .before .before .before .before .before .before in
-    λ u cs s e. stuck-first (decode (c6 .args .x)) u (c6 .args .n) (c .before .letter-at .result) e (c .before .before .if2 .left)
+    let at-entry = c .before .before .before .before .before .before in
+    λ u cs s e. stuck-first (decode (at-entry .args .x)) u (at-entry .args .n) (c .before .letter-at .result) e (c .before .before .if2 .left)
     (c .before .letter-at .ensures u cs s) (c .stuck-by .ensures)
 
 pub stuck-at-spec : {M : Type 1} → statement M

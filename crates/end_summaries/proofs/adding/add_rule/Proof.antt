@@ -9,8 +9,8 @@ use Rattle.end_summaries.proofs.adding.add_rule.Tie as tie
 
 returns : tie.Need-returns
 returns c =
-    let c8 = c .before .before .before .before .before .before .before .before in
-    let a = c8 .args in
+    let at-entry = c .before .before .before .before .before .before .before .before in
+    let a = at-entry .args in
     let xs = a .values .now in
     let v = c .before .before .rule-value in
     let j = c .before .joined in (
@@ -20,11 +20,11 @@ returns c =
 
 sub-result : tie.Need-sub-result
 sub-result c =
-    let c4 = c .before .before .before .before in
-    let c10 = c4 .before .before .before .before .before .before in
-    let a = c10 .args in
+    let at-rule-value = c .before .before .before .before in
+    let at-entry = at-rule-value .before .before .before .before .before .before in
+    let a = at-entry .args in
     let xs = a .values .now in
-    let v = c4 .rule-value in
+    let v = at-rule-value .rule-value in
     let j = c .before .before .before .joined in
     let b = c .before .rank-of in
     let d = c .rank-of2 in
@@ -32,11 +32,11 @@ sub-result c =
 
 returns-2 : tie.Need-returns-2
 returns-2 c =
-    let c4 = c .before .before .before .before in
-    let c10 = c4 .before .before .before .before .before .before in
-    let a = c10 .args in
+    let at-rule-value = c .before .before .before .before in
+    let at-entry = at-rule-value .before .before .before .before .before .before in
+    let a = at-entry .args in
     let xs = a .values .now in
-    let v = c4 .rule-value in
+    let v = at-rule-value .rule-value in
     let j = c .before .before .before .joined in
     let b = c .before .rank-of in
     let d = c .rank-of2 in (

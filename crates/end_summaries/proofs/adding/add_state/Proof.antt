@@ -11,7 +11,7 @@ use Rattle.layout.proofs.Numbered.{row-state-small}
 use Rattle.summary.specs.Codes.{sideOf}
 use Rattle.summary.specs.Grown.{Grown}
 use Rattle.summary.proofs.Growing.{grown-none, grown-then, grown-most}
-use Rattle.end_summaries.specs.Steps.{Tried, Numbers}
+use Rattle.end_summaries.specs.Steps.{Tried, RulesBetween}
 use Rattle.end_summaries.proofs.Rounds.{state-none, several-tried, numbers-none, numbers-more, numbers-all}
 use Rattle.end_summaries.proofs.adding.add_state.Statement.{statement}
 use Rattle.end_summaries.proofs.adding.add_state.Tie as tie
@@ -19,7 +19,7 @@ use Rattle.end_summaries.proofs.adding.add_state.Tie as tie
 abbrev Inv-loop : tie.InvT-loop
 Inv-loop frames numbers q side values₀ from i₀ k₀ values i k =
     (i ≤ rowsMost) × (i ≤ i₀) × Grown values₀ values k
-    × ((M : Table) → Opened frames numbers M → RulesOf M q from i₀ × Tried M (sideOf side) (Numbers i i₀) values₀ values k)
+    × ((M : Table) → Opened frames numbers M → RulesOf M q from i₀ × Tried M (sideOf side) (RulesBetween i i₀) values₀ values k)
 
 abbrev μ-loop : tie.MeasureT-loop
 μ-loop frames numbers q side values₀ from i₀ k₀ values i k =
@@ -27,17 +27,14 @@ abbrev μ-loop : tie.MeasureT-loop
 
 returns : tie.Need-returns Inv-loop μ-loop
 returns c =
-    let c4 = c .before .before .before .before in
-    let a = c4 .args in
+    let at-entry = c .before .before .before .before in
+    let a = at-entry .args in
     (grown-none (a .values .now), λ M o. state-none (a .values .now) (a .q) (λ i row e. omega (arith, row-state-small o i row e, c .if1 .taken)))
-
-rules-in-requires : tie.Need-rules-in-requires Inv-loop μ-loop
-rules-in-requires c κs = search needs
 
 loop-holds : tie.Need-loop-holds Inv-loop μ-loop
 loop-holds c =
-    let c5 = c .before .before .before .before .before in
-    let a = c5 .args in
+    let at-entry = c .before .before .before .before .before in
+    let a = at-entry .args in
     let r = c .rules-in .ensures in (
       r .0 .0,
       omega arith,
@@ -45,14 +42,11 @@ loop-holds c =
       λ M o. let w = r .1 (a .frames .now) M o in (w, numbers-none (o .limited .made .rising) w (a .values .now)),
     )
 
-mul-if2 : tie.Need-mul-if2 Inv-loop μ-loop
-mul-if2 c = search needs
-
 slice-read-if2 : tie.Need-slice-read-if2 Inv-loop μ-loop
 slice-read-if2 c =
-    let c4 = c .before .before .before .before in
-    let c8 = c4 .before .before .before .before in
-    omega (arith, c .before .before .loop .inv .2 .long, c8 .pre .1, c4 .if1 .left)
+    let at-if1 = c .before .before .before .before in
+    let at-entry = at-if1 .before .before .before .before in
+    omega (arith, c .before .before .loop .inv .2 .long, at-entry .pre .1, at-if1 .if1 .left)
 
 same-length : tie.Need-same-length Inv-loop μ-loop
 same-length c =
@@ -63,42 +57,35 @@ returns-2 c =
     let l = c .before .before .before .loop in
     (l .inv .2, λ M o. several-tried (o .limited .made .rising) (l .inv .3 M o .1) (omega (arith, c .if2 .taken)))
 
-sub-i : tie.Need-sub-i Inv-loop μ-loop
-sub-i c = search needs
-
 add-rule-requires : tie.Need-add-rule-requires Inv-loop μ-loop
 add-rule-requires c κs =
-    let c4 = c .before .before .before .before in
-    let c6 = c4 .before .before in
-    let c10 = c6 .before .before .before .before in (
-      c10 .pre .0,
-      omega (arith, c4 .loop .inv .0, c .before .before .before .loop-test .taken),
-      omega (arith, c6 .if1 .left),
-      c4 .loop .inv .2 .long
-          ∙ c10 .pre .1,
+    let at-loop = c .before .before .before .before in
+    let at-if1 = at-loop .before .before in
+    let at-entry = at-if1 .before .before .before .before in (
+      at-entry .pre .0,
+      omega (arith, at-loop .loop .inv .0, c .before .before .before .loop-test .taken),
+      omega (arith, at-if1 .if1 .left),
+      at-loop .loop .inv .2 .long ∙ at-entry .pre .1,
     )
 
 add-k : tie.Need-add-k Inv-loop μ-loop
 add-k c =
-    let c7 = c .before .before .before .before .before .before .before in
-    let c13 = c7 .before .before .before .before .before .before in
-    omega (arith, grown-most (grown-then (c7 .loop .inv .2) (c .before .before .add-rule .ensures .0)) (c13 .pre .1))
-
-loop-less : tie.Need-loop-less Inv-loop μ-loop
-loop-less c = search needs
+    let at-loop = c .before .before .before .before .before .before .before in
+    let at-entry = at-loop .before .before .before .before .before .before in
+    omega (arith, grown-most (grown-then (at-loop .loop .inv .2) (c .before .before .add-rule .ensures .0)) (at-entry .pre .1))
 
 loop-again : tie.Need-loop-again Inv-loop μ-loop
 loop-again c =
-    let c6 = c .before .before .before .before .before .before in
-    let c7 = c6 .before in
-    let l = c7 .loop in
+    let at-loop-test = c .before .before .before .before .before .before in
+    let at-loop = at-loop-test .before in
+    let l = at-loop .loop in
     let a = c .before .before .add-rule .ensures in (
       omega (arith, l .inv .0),
       omega (arith, l .inv .1),
       grown-then (l .inv .2) (a .0),
       λ M o.
           let w = l .inv .3 M o in
-          (w .0, numbers-more (o .limited .made .rising) (w .0) (l .i) (c6 .loop-test .taken) (l .inv .1) (w .1) (a .0) (λ row. a .1 M row o)),
+          (w .0, numbers-more (o .limited .made .rising) (w .0) (l .i) (at-loop-test .loop-test .taken) (l .inv .1) (w .1) (a .0) (λ row. a .1 M row o)),
     )
 
 same-length-2 : tie.Need-same-length-2 Inv-loop μ-loop
@@ -117,16 +104,16 @@ add-state-spec =
     Inv-loop
     μ-loop
     returns
-    rules-in-requires
+    (λ c κs. search needs)
     loop-holds
-    mul-if2
+    (λ c. search needs)
     slice-read-if2
     same-length
     returns-2
-    sub-i
+    (λ c. search needs)
     add-rule-requires
     add-k
-    loop-less
+    (λ c. search needs)
     loop-again
     same-length-2
     returns-3)

@@ -1,0 +1,2 @@
+-- What one round of parting states into classes does.
+pub mod Round

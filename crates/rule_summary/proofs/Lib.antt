@@ -1,0 +1,3 @@
+-- The law of a rule's summary:
+--   Walks      gathering-..: it is gathered from child to child
+pub mod Walks

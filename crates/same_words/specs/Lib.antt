@@ -1,0 +1,2 @@
+-- What comparing the words of two rules answers.
+pub mod Words

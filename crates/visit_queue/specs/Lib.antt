@@ -1,0 +1,2 @@
+-- The queue of the states that were met.
+pub mod Queue
