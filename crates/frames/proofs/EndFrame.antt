@@ -9,10 +9,10 @@ use Rattle.machine.specs.Machine.{Table}
 use Rattle.text.specs.Frames as text
 use Rattle.layout.specs.Layout.{rowFrames, headFrames, framesOf}
 use Rattle.fields.proofs.Slices.{slice-none}
-use Rattle.frames.specs.Staged.{AtRules, Stepped}
-use Rattle.frames.specs.declared.Stage.{Stage}
-use Rattle.frames.specs.declared.Next.the-variants as next
-use Rattle.frames.proofs.StepFrames.{stepped-left, stepped-ready, frame-more, frame-long}
+use Rattle.head_frames.specs.Staged.{AtRules, Stepped}
+use Rattle.head_frames.specs.declared.Stage.{Stage}
+use Rattle.head_frames.specs.declared.Next.the-variants as next
+use Rattle.head_frames.proofs.StepFrames.{stepped-left, stepped-ready, frame-more, frame-long}
 
 -- The stage behind the end.
 abbrev pub behindEnd : Stage → ℕ → Stage

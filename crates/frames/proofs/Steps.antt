@@ -10,10 +10,10 @@ use Rattle.text.specs.Frames as text
 use Rattle.text.specs.Frames.{symbols, rules, ended, whole, symbolFrame, startFrame, ruleFrame, endFrame}
 use Rattle.text.proofs.ByKind.{step-empty, step-01, step-02, step-03, step-04, step-first-other, step-symbols-other, step-rules-other, step-ended}
 use Rattle.fields.proofs.Slices.{slice-none, slice-byte}
-use Rattle.frames.specs.Staged.{AtSymbols, AtRules, Staged, Stepped}
-use Rattle.frames.specs.declared.Stage.{Stage}
-use Rattle.frames.specs.declared.Next.{Next}
-use Rattle.frames.specs.declared.Next.the-variants as next
+use Rattle.head_frames.specs.Staged.{AtSymbols, AtRules, Staged, Stepped}
+use Rattle.head_frames.specs.declared.Stage.{Stage}
+use Rattle.head_frames.specs.declared.Next.{Next}
+use Rattle.head_frames.specs.declared.Next.the-variants as next
 
 module _ (F R : List ℕ) (st : Stage) (n : ℕ) (s : text.Stage) (d : Staged F R st s) where
   -- A frame of no bytes.

@@ -9,7 +9,8 @@ use lib.Seq.{ext-getD}
 use Rattle.words.specs.Reply.{Reply, given, refusal}
 use Rattle.machine.specs.Machine.{Table}
 use Rattle.layout.specs.Layout.{HeadIn, Opened}
-use Rattle.table.specs.Opening.{Opens, Beyond, Unchanged}
+use Rattle.table.specs.Opening.{Opens, Unchanged}
+use Rattle.table_numbers.specs.Storing.{Beyond}
 use Rattle.table.specs.declared.Opening.{Opening}
 use Rattle.table.specs.declared.Opening.the-variants as opening
 

@@ -9,13 +9,14 @@ use Rattle.machine.specs.Machine.{Table}
 use Rattle.text.specs.Reading.{readTable}
 use Rattle.text.proofs.Back.{write-read}
 use Rattle.layout.specs.Layout.{framesSize, numbersSize, framesOf, Opened}
-use Rattle.frames.specs.declared.Head.{Head}
+use Rattle.head_frames.specs.declared.Head.{Head}
 use Rattle.layout.proofs.Fit.{length-text, frames-fit}
-use Rattle.frames.specs.Staged.{headOf}
-use Rattle.table.specs.Opening.{Decoded, Reads, Opens, Unchanged}
-use Rattle.table.specs.Storing.{Rules, Filled}
-use Rattle.table.specs.declared.Decoding.{Decoding}
-use Rattle.table.specs.declared.Decoding.the-variants as decoding
+use Rattle.head_frames.specs.Staged.{headOf}
+use Rattle.table_lines.specs.Reads.{Decoded, Reads}
+use Rattle.table.specs.Opening.{Opens, Unchanged}
+use Rattle.table_numbers.specs.Storing.{Rules, Filled}
+use Rattle.table_lines.specs.declared.Decoding.{Decoding}
+use Rattle.table_lines.specs.declared.Decoding.the-variants as decoding
 use Rattle.table.specs.declared.Opening.the-variants as opening
 use Rattle.table.proofs.Copies.{copy-long}
 

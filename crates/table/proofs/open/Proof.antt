@@ -1,7 +1,7 @@
 -- `open` meets its contract: what is read into its own bytes goes to the lent ones where the text is not refused. Assumes nothing.
 use native.Mathlib.Omega.{arith}
 use Rattle.text.specs.Reading.{readTable}
-use Rattle.table.proofs.Ends as law
+use Rattle.table.proofs.Refusals as law
 use Rattle.table.proofs.Tables as table
 use borrow.Author.Needs.{needs}
 use Rattle.table.proofs.open.Statement.{statement}

@@ -1,6 +1,6 @@
 -- `read` meets its contract: the refusal, or the table whose numbers are filled. Assumes nothing.
 use Rattle.text.specs.Reading.{readTable}
-use Rattle.table.proofs.Ends as law
+use Rattle.table.proofs.Refusals as law
 use Rattle.table.proofs.Tables as table
 use borrow.Author.Needs.{needs}
 use Rattle.table.proofs.read.Statement.{statement}

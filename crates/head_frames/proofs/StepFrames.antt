@@ -1,0 +1,46 @@
+-- What a frame's reading answers, from what its fields give; and the bytes with one frame more.
+use mathlib.Core.Path.{_≡_, refl, sym, ap, ap₂, _∙_}
+use mathlib.Core.List.{List, _∷_, _++_}
+use Prim.Native.Nat.{ℕ, _+_, _<_, _≤_}
+use native.Mathlib.Omega.{arith}
+use lib.ListN.{length, getD, take, take-append-drop}
+use lib.Seq.{slice, take-take, slice-cons, length-take-le}
+use Rattle.text.specs.Fields.{Parsed, got, fault}
+use Rattle.text.specs.Frames as text
+use Rattle.fields.specs.Read.{faultOf}
+use Rattle.fields.specs.declared.Field.{Field}
+use Rattle.fields.specs.declared.Field.the-variants as field
+use Rattle.fields.proofs.Slices.{slice-none, slice-byte}
+use Rattle.head_frames.specs.Staged.{Staged, Stepped}
+use Rattle.head_frames.specs.declared.Stage.{Stage}
+use Rattle.head_frames.specs.declared.Next.{Next}
+use Rattle.head_frames.specs.declared.Next.the-variants as next
+
+module _ (F R : List ℕ) (p : Parsed text.Stage) where
+  -- A number of no is answered.
+  pub stepped-wrong : (k : ℕ) (r : Next) → p ≡ fault k → r ≡ next.Wrong k → Stepped F R (text.whole p) r
+  stepped-wrong k r e f = rw (e, f) refl
+
+  -- The number of a field that is refused is answered.
+  pub stepped-fault : (k : ℕ) (f : Field) (r : Next) → p ≡ fault k → f ≡ field.Fault k → r ≡ next.Wrong (faultOf f) → Stepped F R (text.whole p) r
+  stepped-fault k f r e g h = rw (e, h, g) refl
+
+  module _ (s : text.Stage) (then end : ℕ) (e : p ≡ got s (slice then end F)) where
+    -- Bytes are left over.
+    pub stepped-left : then < end → end ≤ length F → Stepped F R (text.whole p) (next.Wrong 5)
+    stepped-left h k = rw (e, slice-cons then end F 0 h k) refl
+
+    -- The frame is read to its end.
+    pub stepped-ready : (st : Stage) (r : Next) → then ≤ end → end ≤ then → Staged F R st s → r ≡ next.Ready st → Stepped F R (text.whole p) r
+    stepped-ready st r h k d f = rw (e, f, slice-none F then end (omega arith)) d
+
+module _ (F : List ℕ) (used end : ℕ) (h : used < end) (k : end ≤ length F) where
+  -- The bytes up to a frame's end are those before it, its kind, and its fields.
+  pub frame-more : (front rest : List ℕ) (kind : ℕ) → take used F ≡ front → getD F used 0 ≡ kind → slice (used + 1) end F ≡ rest → take end F ≡ front ++ kind ∷ rest
+  frame-more front rest kind e f g =
+      sym (take-append-drop used (take end F))
+      ∙ ap₂ _++_ (take-take used end F (omega arith) ∙ e) (slice-byte F used end kind h k (sym f) ∙ ap (λ x. kind ∷ x) g)
+
+  -- They are as many as the place of its end says.
+  pub frame-long : (all : List ℕ) → take end F ≡ all → end ≡ length all
+  frame-long all e = sym (length-take-le end F k) ∙ ap length e
