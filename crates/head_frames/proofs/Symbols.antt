@@ -1,5 +1,6 @@
--- Frame 01: what its field gives, and one symbol more.
-use mathlib.Core.Path.{_≡_, sym, ap, _∙_}
+-- Frame 01 while symbols are read: what the frame's answer is, by what its field gave.
+use mathlib.Core.Path.{_≡_, refl, sym, ap, _∙_}
+use mathlib.Core.Bool.{true}
 use mathlib.Core.List.{List, [], _∷_, _++_}
 use Prim.Native.Nat.{ℕ, _+_, _<_, _≤_}
 use native.Mathlib.Omega.{arith}
@@ -9,6 +10,7 @@ use lib.ListN.{length, getD, take, length-append}
 use lib.Seq.{slice}
 use Rattle.text.specs.Limits.{symbolsMost, arityMost}
 use Rattle.text.specs.Fields.{got, fault, within}
+use Rattle.text.specs.Frames as text
 use Rattle.text.specs.Frames.{symbols, symbolFrame}
 use Rattle.text.proofs.Fields.{then-got, check-got, within-inv, most-append}
 use Rattle.text.proofs.Faults.{then-fault, check-fault}
@@ -16,43 +18,64 @@ use Rattle.layout.specs.Layout.{symbolFrames}
 use Rattle.layout.proofs.Growing.{symbols-more}
 use Rattle.fields.proofs.Slices.{slice-none}
 use Rattle.fields.proofs.Numbers.{IsNumber}
-use Rattle.head_frames.specs.Staged.{AtSymbols}
+use Rattle.head_frames.specs.Staged.{AtSymbols, Stepped}
 use Rattle.head_frames.specs.declared.Stage.{Stage}
-use Rattle.head_frames.proofs.StepFrames.{frame-more, frame-long}
+use Rattle.head_frames.specs.declared.Next.the-variants as next
+use Rattle.head_frames.proofs.StepFrames.{stepped-left, stepped-ready, frame-more, frame-long}
 
--- ---- what the field gives
-
--- A 65th symbol.
-pub symbol-many : (ks bs : List ℕ) → symbolsMost ≤ length ks → symbolFrame ks bs ≡ fault 4
-unfolding symbolFrame
-symbol-many ks bs h = check-fault (ltb (length ks) symbolsMost) 4 _ bs (le-ltb (length ks) symbolsMost h)
-
-module _ (ks bs : List ℕ) (h : length ks < symbolsMost) where
-  -- The arity is refused.
-  pub symbol-fault : (k : ℕ) → within 0 arityMost bs ≡ fault k → symbolFrame ks bs ≡ fault k
+module _ {F : List ℕ} {st : Stage} {ks : List ℕ} (d : AtSymbols F st ks) (at end : ℕ) where
+  -- A 65th symbol.
+  pub refuse-many : symbolsMost ≤ st .head .symbols → symbolFrame ks (slice at end F) ≡ fault 4
   unfolding symbolFrame
-  symbol-fault k e = check-got (ltb (length ks) symbolsMost) 4 _ bs (lt-ltb (length ks) symbolsMost h) ∙ then-fault _ _ k e
+  refuse-many h = check-fault (ltb (length ks) symbolsMost) 4 _ (slice at end F) (le-ltb (length ks) symbolsMost (omega (arith, d .symbols)))
 
-  -- The arity is read.
-  pub symbol-got : (a : ℕ) (rest : List ℕ) → within 0 arityMost bs ≡ got a rest → symbolFrame ks bs ≡ got (symbols (ks ++ a ∷ [])) rest
-  unfolding symbolFrame
-  symbol-got a rest e = check-got (ltb (length ks) symbolsMost) 4 _ bs (lt-ltb (length ks) symbolsMost h) ∙ then-got _ _ a rest e
+  module _ (room : st .head .symbols < symbolsMost) where
+    -- There is room for a symbol.
+    has-room : ltb (length ks) symbolsMost ≡ true
+    has-room = lt-ltb (length ks) symbolsMost (omega (arith, d .symbols))
 
--- ---- one symbol more
+    -- The arity is refused.
+    pub refuse-arity : (k : ℕ) → within 0 arityMost (slice at end F) ≡ fault k → symbolFrame ks (slice at end F) ≡ fault k
+    unfolding symbolFrame
+    refuse-arity k e = check-got (ltb (length ks) symbolsMost) 4 _ (slice at end F) has-room ∙ then-fault _ _ k e
 
-module _ {F : List ℕ} {st : Stage} {ks : List ℕ} (d : AtSymbols F st ks) (kind : getD F (st .used) 0 ≡ 1) where
-  -- The symbols with the one of a frame that is read to its end.
-  pub symbol-staged : (at end a then : ℕ) (st′ : Stage) → at ≡ st .used + 1 → end ≤ length F → length ks < symbolsMost → IsNumber F at end a then (within 0 arityMost (slice at end F)) → end ≤ then
-      → st′ .phase ≡ 0 → st′ .head .symbols ≡ st .head .symbols + 1 → st′ .used ≡ end → AtSymbols F st′ (ks ++ a ∷ [])
-  symbol-staged at end a then st′ e k m i h e₁ e₂ e₃ =
-      let x = within-inv 0 arityMost (slice at end F) a (slice then end F) (i .read) in
-      let y : slice (st .used + 1) end F ≡ a ∷ [] = ap (λ n. slice n end F) (sym e) ∙ x .2 ∙ ap (λ r. a ∷ r) (slice-none F then end (omega (arith, i .inside))) in
-      let f : take end F ≡ symbolFrames (ks ++ a ∷ []) = frame-more F (st .used) end (omega (arith, i .inside, i .next)) k _ _ 1 (d .frames) kind y ∙ sym (symbols-more ks a) in
-      record {
-        phase = e₁;
-        symbols = omega (arith, e₂, d .symbols, length-append ks (a ∷ []));
-        few = omega (arith, length-append ks (a ∷ []));
-        small = most-append arityMost ks (a ∷ []) (d .small) (x .1, tt);
-        used = e₃ ∙ frame-long F (st .used) end (omega (arith, i .inside, i .next)) k _ f;
-        frames = ap (λ n. take n F) e₃ ∙ f;
-      }
+    module _ {a then : ℕ} (i : IsNumber F at end a then (within 0 arityMost (slice at end F))) where
+      -- The arity is read.
+      taken : symbolFrame ks (slice at end F) ≡ got (symbols (ks ++ a ∷ [])) (slice then end F)
+      unfolding symbolFrame
+      taken = check-got (ltb (length ks) symbolsMost) 4 _ (slice at end F) has-room ∙ then-got _ _ a (slice then end F) (i .read)
+
+      -- Bytes are left over.
+      pub symbol-over : (R : List ℕ) → then < end → end ≤ length F → Stepped F R (text.whole (symbolFrame ks (slice at end F))) (next.Wrong 5)
+      symbol-over R h l = stepped-left F R _ _ then end taken h l
+
+      module _ (whole : end ≤ then) (next-to : at ≡ st .used + 1) (inside : end ≤ length F) (kind : getD F (st .used) 0 ≡ 1) where
+        -- The arity is at most 4, and its byte is the frame's only field.
+        arity-read : (a ≤ arityMost) × (slice at end F ≡ a ∷ slice then end F)
+        arity-read = let x = within-inv 0 arityMost (slice at end F) a (slice then end F) (i .read) in (x .1, x .2)
+
+        field-alone : slice (st .used + 1) end F ≡ a ∷ []
+        field-alone =
+            ap (λ n. slice n end F) (sym next-to)
+            ∙ arity-read .1
+            ∙ ap (λ r. a ∷ r) (slice-none F then end (omega (arith, i .inside)))
+
+        -- The frame has a byte.
+        some : st .used < end
+        some = omega (arith, i .inside, i .next)
+
+        -- The symbol's frame stands behind the frames so far.
+        frames-with : take end F ≡ symbolFrames (ks ++ a ∷ [])
+        frames-with = frame-more F (st .used) end some inside _ _ 1 (d .frames) kind field-alone ∙ sym (symbols-more ks a)
+
+        -- The stage behind the symbol.
+        pub symbol-next : (R : List ℕ) (st′ : Stage) → st′ .phase ≡ 0 → st′ .head .symbols ≡ st .head .symbols + 1 → st′ .used ≡ end
+            → Stepped F R (text.whole (symbolFrame ks (slice at end F))) (next.Ready st′)
+        symbol-next R st′ phase count used = stepped-ready F R _ _ then end taken st′ _ (i .inside) whole (record {
+          phase = phase;
+          symbols = omega (arith, d .symbols, length-append ks (a ∷ []));
+          few = omega (arith, d .symbols, length-append ks (a ∷ []));
+          small = most-append arityMost ks (a ∷ []) (d .small) (arity-read .0, tt);
+          used = used ∙ frame-long F (st .used) end some inside _ frames-with;
+          frames = ap (λ n. take n F) used ∙ frames-with;
+        }) refl

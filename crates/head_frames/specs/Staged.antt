@@ -96,7 +96,12 @@ Stepped F R (frames.wrong k) (next.Wrong n) = n ≡ k
 -- The stage behind frame 02, which ends at `end`: no rule yet.
 abbrev pub behindStart : ℕ → ℕ → ℕ → ℕ → ℕ → ℕ → Stage
 behindStart symbols states start before after end =
-    record { phase = 1; head = record { symbols = symbols; states = states; start = start; before = before; after = after; rows = end; rules = 0 }; last = 0; used = end }
+    record {
+      phase = 1;
+      head = record { symbols = symbols; states = states; start = start; before = before; after = after; rows = end; rules = 0 };
+      last = 0;
+      used = end;
+    }
 
 -- The number of a frame that is refused, 0 for one that is not.
 abbrev pub numberOf : Next → ℕ

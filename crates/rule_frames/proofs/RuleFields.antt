@@ -8,42 +8,39 @@ use Rattle.words.specs.Word.{Word}
 use Rattle.machine.specs.Machine.{Child, Rule}
 use Rattle.text.specs.Fields.{Parsed, got, fault, text, children}
 use Rattle.layout.specs.Layout.{ruleLetters, kidsPacked, entryOf}
-use Rattle.fields.specs.Read.{kidsFaultOf}
+use Rattle.fields.specs.Read.{WordRead, KidsRead, faultOf, kidsFaultOf}
+use Rattle.fields.specs.declared.Field.{Field}
+use Rattle.fields.specs.declared.Field.the-variants as field
 use Rattle.fields.specs.declared.Kids.{Kids}
 use Rattle.fields.specs.declared.Kids.the-variants as kids
-use Rattle.fields.proofs.Words.{IsWord}
-use Rattle.fields.proofs.Siblings.{IsFamily}
+use Rattle.fields.proofs.Words.{IsWord, fault-word}
+use Rattle.fields.proofs.Siblings.{IsFamily, fault-kids}
 use Rattle.rule_frames.specs.Kept.{ruleField, Entered, RuleRead}
 use Rattle.rule_frames.specs.declared.Entry.{Entry}
 use Rattle.rule_frames.specs.declared.Entry.the-variants as entry
 
--- The number of refused children.
-pub kids-fault-of : (r : Kids) (n k : ℕ) → r ≡ kids.Fault k → n ≡ kidsFaultOf r → n ≡ k
-kids-fault-of r n k e f = f ∙ ap kidsFaultOf e
+-- ---- what is refused
 
--- ---- what is refused, and what is read
-
-module _ (states k : ℕ) (bs : List ℕ) where
+module _ (F : List ℕ) (i at end states k : ℕ) where
   -- The word u0 is refused.
-  pub first-fault : (n : ℕ) → text bs ≡ fault n → ruleField states k bs ≡ fault n
+  pub first-stops : (m n : ℕ) (r : Field) → r ≡ field.Fault m → n ≡ faultOf r → WordRead F at end (text (slice at end F)) r
+      → RuleRead F i at end (ruleField states k (slice at end F)) (entry.Fault n)
   unfolding ruleField
-  first-fault n e = rw e
+  first-stops m n r e f w = rw (fault-word F at end m (text (slice at end F)) r e w) (f ∙ ap faultOf e)
 
   -- The children are refused.
-  pub rest-fault : (u : Word) (s : List ℕ) (n : ℕ) → text bs ≡ got u s → children states k s ≡ fault n → ruleField states k bs ≡ fault n
+  pub rest-stops : (behind m n l : ℕ) (r : Kids) → IsWord F at end l behind (text (slice at end F)) → r ≡ kids.Fault m → n ≡ kidsFaultOf r
+      → KidsRead F behind end (children states k (slice behind end F)) r → RuleRead F i at end (ruleField states k (slice at end F)) (entry.Fault n)
   unfolding ruleField
-  rest-fault u s n e f = rw (e, f)
+  rest-stops behind m n l r u e f w = rw (u .read, fault-kids F behind end m (children states k (slice behind end F)) r e w) (f ∙ ap kidsFaultOf e)
 
-  -- Both are read.
-  pub rule-read : (u : Word) (s : List ℕ) (cs : List Child) (t : List ℕ) → text bs ≡ got u s → children states k s ≡ got cs t → ruleField states k bs ≡ got (record { first = u; rest = cs }) t
-  unfolding ruleField
-  rule-read u s cs t e f = rw (e, f)
+-- ---- what is read
 
--- ---- from what is read to the answer
-
--- A rule that is refused.
-pub rule-fault : (F : List ℕ) (i at end k n : ℕ) (o : Parsed Rule) → o ≡ fault k → n ≡ k → RuleRead F i at end o (entry.Fault n)
-rule-fault F i at end k n o e f = rw e f
+-- Word and children are read.
+rule-read : (states k : ℕ) (bs : List ℕ) (u : Word) (s : List ℕ) (cs : List Child) (t : List ℕ) → text bs ≡ got u s → children states k s ≡ got cs t
+    → ruleField states k bs ≡ got (record { first = u; rest = cs }) t
+unfolding ruleField
+rule-read states k bs u s cs t e f = rw (e, f)
 
 -- The sum that is packed is the rule's entry.
 entry-sum : (i : ℕ) (u : Word) (cs : List Child) (n more packed x : ℕ) → n + more ≡ ruleLetters (record { first = u; rest = cs })
@@ -58,12 +55,13 @@ pub rule-got : (F : List ℕ) (number at end states k n behind then more packed 
 unfolding ruleLetters
 rule-got F number at end states k n behind then more packed x w i e =
     let c = i .family in
-    rw (rule-read states k (slice at end F) (slice (at + 1) behind F) (slice behind end F) (i .read-children) (slice then end F) (w .read) (i .read))
+    let u : Word = slice (at + 1) behind F in
+    rw (rule-read states k (slice at end F) u (slice behind end F) (i .read-children) (slice then end F) (w .read) (i .read))
     (record {
       left = refl;
       from = omega (arith, w .next, c .from);
       inside = c .inside;
-      entry = entry-sum number (slice (at + 1) behind F) (i .read-children) n more packed x (omega (arith, w .long, c .letters)) (c .packed) e;
+      entry = entry-sum number u (i .read-children) n more packed x (omega (arith, w .long, c .letters)) (c .packed) e;
     })
 
 -- ---- from the answer to what is read

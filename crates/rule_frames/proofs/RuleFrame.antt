@@ -1,15 +1,19 @@
 -- Frame 03 at the stage of rules: what the frame's answer is, by what its fields gave.
 use mathlib.Core.Path.{_≡_, refl, sym, ap, subst, _∙_}
+use mathlib.Core.Bool.{true}
 use mathlib.Core.List.{List, [], _∷_, _++_}
 use Prim.Native.Nat.{ℕ, _+_, _*_, _<_, _≤_}
 use native.Mathlib.Omega.{arith}
+use borrow.Author.Tests.{lt-ltb, le-ltb}
+use lib.Dec.{ltb}
 use lib.ListN.{length, getD, take, length-append}
 use lib.Seq.{slice}
 use Rattle.machine.specs.Machine.{Row, Table}
+use Rattle.text.specs.Limits.{rowsMost}
 use Rattle.text.specs.Fields.{got, fault, andThen, pure, below}
 use Rattle.text.specs.Frames as text
-use Rattle.text.proofs.Fields.{then-got, below-inv}
-use Rattle.text.proofs.Faults.{then-fault}
+use Rattle.text.proofs.Fields.{then-got, check-got, below-inv}
+use Rattle.text.proofs.Faults.{then-fault, check-fault}
 use Rattle.layout.specs.Layout.{rowFrames, headFrames, rowNumber}
 use Rattle.layout.proofs.Modest.{at-most}
 use Rattle.fields.proofs.Slices.{slice-none}
@@ -23,7 +27,7 @@ use Rattle.head_frames.proofs.StepFrames.{stepped-left, stepped-ready, frame-mo
 use Rattle.rule_frames.proofs.RuleFields.{IsRule}
 use Rattle.rule_frames.proofs.RuleKeys.{rises-true, rises-false}
 use Rattle.rule_frames.proofs.RuleBytes.{row-bytes, arity-there}
-use Rattle.rule_frames.proofs.RuleSteps.{withRule, rule-full, state-refused, symbol-refused, order-refused, fields-decide}
+use Rattle.rule_frames.proofs.RuleSteps.{withRule, behindSymbol, fields-decide}
 use Rattle.rule_frames.proofs.RuleStage.{numbers-more, rows-frames}
 use Rattle.rule_frames.proofs.Keeping.{noted-more}
 
@@ -40,16 +44,23 @@ module _ {F R : List ℕ} {st : Stage} {M : Table} (a : AtRules F R st M) (at en
 
   -- A 513th rule.
   pub refuse-full : 512 ≤ st .head .rules → text.ruleFrame M (slice at end F) ≡ fault 4
-  refuse-full h = rule-full M (slice at end F) (omega (arith, rules-of))
+  unfolding text.ruleFrame
+  refuse-full h = check-fault (ltb (length (M .rows)) rowsMost) 4 _ (slice at end F) (le-ltb (length (M .rows)) rowsMost (omega (arith, rules-of)))
 
   module _ (room : st .head .rules < 512) where
     -- There is room for a rule.
     abbrev has-room : length (M .rows) < 512
     has-room = omega (arith, rules-of)
 
+    room-told : ltb (length (M .rows)) rowsMost ≡ true
+    room-told = lt-ltb (length (M .rows)) rowsMost has-room
+
     -- The state is refused.
     pub refuse-state : (k : ℕ) → below (st .head .states) (slice at end F) ≡ fault k → text.ruleFrame M (slice at end F) ≡ fault k
-    refuse-state k e = state-refused M (slice at end F) has-room k (subst (λ n. below n (slice at end F) ≡ fault k) states-of e)
+    unfolding text.ruleFrame
+    refuse-state k e =
+        check-got (ltb (length (M .rows)) rowsMost) 4 _ (slice at end F) room-told
+        ∙ then-fault _ _ k (subst (λ n. below n (slice at end F) ≡ fault k) states-of e)
 
     module _ {q second : ℕ} (i : IsNumber F at end q second (below (st .head .states) (slice at end F))) where
       -- The state is read.
@@ -58,8 +69,11 @@ module _ {F R : List ℕ} {st : Stage} {M : Table} (a : AtRules F R st M) (at en
 
       -- The symbol is refused.
       pub refuse-symbol : (k : ℕ) → below (st .head .symbols) (slice second end F) ≡ fault k → text.ruleFrame M (slice at end F) ≡ fault k
+      unfolding text.ruleFrame
       refuse-symbol k e =
-          symbol-refused M (slice at end F) has-room q (slice second end F) state-read k (subst (λ n. below n (slice second end F) ≡ fault k) symbols-of e)
+          check-got (ltb (length (M .rows)) rowsMost) 4 _ (slice at end F) room-told
+          ∙ then-got _ _ q (slice second end F) state-read
+          ∙ then-fault _ _ k (subst (λ n. below n (slice second end F) ≡ fault k) symbols-of e)
 
       module _ {f from : ℕ} (j : IsNumber F second end f from (below (st .head .symbols) (slice second end F))) where
         -- The symbol is read, and is below 64.
@@ -72,10 +86,19 @@ module _ {F R : List ℕ} {st : Stage} {M : Table} (a : AtRules F R st M) (at en
         symbol-small : f < 64
         symbol-small = omega (arith, symbol-below, a .numbers .symbols)
 
+        -- What stands behind the symbol decides.
+        both-read : text.ruleFrame M (slice at end F) ≡ behindSymbol M q f (slice from end F)
+        unfolding text.ruleFrame
+        both-read =
+            check-got (ltb (length (M .rows)) rowsMost) 4 _ (slice at end F) room-told
+            ∙ then-got _ _ q (slice second end F) state-read
+            ∙ then-got _ _ f (slice from end F) symbol-read
+
         -- The rule does not rise.
         pub refuse-order : q * 64 + f < st .last → text.ruleFrame M (slice at end F) ≡ fault 3
         refuse-order h =
-            order-refused M (slice at end F) has-room q (slice second end F) state-read f (slice from end F) symbol-read
+            both-read
+            ∙ check-fault (text.rises (M .rows) q f) 3 _ (slice from end F)
             (rises-false (M .rows) q f (st .last) (a .numbers .behind) (a .numbers .last) symbol-small h)
 
         -- The symbol's arity is read from its frame, and is at most 4.
@@ -89,7 +112,8 @@ module _ {F R : List ℕ} {st : Stage} {M : Table} (a : AtRules F R st M) (at en
           -- The fields decide.
           decided : text.ruleFrame M (slice at end F) ≡ andThen (ruleField (st .head .states) n (slice from end F)) (λ r. pure (text.rules (withRule M q f r)))
           decided =
-              fields-decide M (slice at end F) has-room q (slice second end F) state-read f (slice from end F) symbol-read
+              both-read
+              ∙ fields-decide M q f (slice from end F)
               (rises-true (M .rows) q f (st .last) (a .numbers .behind) symbol-small later)
               ∙ ap (λ k. andThen (ruleField (M .states) k (slice from end F)) (λ r. pure (text.rules (withRule M q f r)))) (sym (arity ∙ arity-is))
               ∙ ap (λ k. andThen (ruleField k n (slice from end F)) (λ r. pure (text.rules (withRule M q f r)))) (sym states-of)
@@ -119,8 +143,9 @@ module _ {F R : List ℕ} {st : Stage} {M : Table} (a : AtRules F R st M) (at en
               -- The row's frame stands behind the frames so far.
               frames-with : take end F ≡ headFrames (text.withRow M row) ++ rowFrames (M .rows ++ row ∷ [])
               frames-with =
-                  frame-more F (st .used) end (omega arith) inside (headFrames M ++ rowFrames (M .rows)) (slice at end F) 3 (a .frames) kind (ap (λ k. slice k end F) (sym next-to))
-                  ∙ ap (λ l. headFrames M ++ rowFrames (M .rows) ++ l) (row-bytes (st .head .states) (st .head .symbols) n (slice at end F) q (slice second end F) f (slice from end F) (r .rule) (slice then end F) (i .read) (j .read) (r .read) nothing-left)
+                  frame-more F (st .used) end (omega arith) inside _ (slice at end F) 3 (a .frames) kind (ap (λ k. slice k end F) (sym next-to))
+                  ∙ ap (λ l. headFrames M ++ rowFrames (M .rows) ++ l)
+                  (row-bytes (st .head .states) (st .head .symbols) n _ q _ f _ (r .rule) _ (i .read) (j .read) (r .read) nothing-left)
                   ∙ sym (rows-frames M row)
 
               -- The rule's bytes stand three bytes behind the frames so far.

@@ -13,7 +13,7 @@ use Rattle.text.specs.Frames.{behindRow, rises}
 use Rattle.head_frames.specs.Staged.{key, lastKey}
 
 -- The rows stand before place n, and their symbols are below 64.
-abbrev pub AllBefore : ℕ → List Row → Type 0
+abbrev AllBefore : ℕ → List Row → Type 0
 AllBefore n rows = Every (λ r. (r .symbol < 64) × (key r < n)) rows
 
 module _ (r : Row) (q f : ℕ) (hr : r .symbol < 64) (hf : f < 64) where

@@ -23,11 +23,14 @@ head-frames M r = refl
 head-more : (M : Table) (r : Row) → moreRules (headOf M) ≡ headOf (text.withRow M r)
 unfolding headFrames initialFrame
 head-more M r =
-    ap (λ (n : ℕ). record { symbols = length (M .arities); states = M .states; start = M .start; before = headOf M .before; after = headOf M .after; rows = length (headFrames M); rules = n })
+    let h = headOf M in
+    ap
+    (λ (n : ℕ). record { symbols = h .symbols; states = h .states; start = h .start; before = h .before; after = h .after; rows = h .rows; rules = n })
     (sym (length-append (M .rows) (r ∷ [])))
 
 -- The numbers behind a rule that rises.
-pub numbers-more : (st : Stage) (M : Table) (r : Row) (end : ℕ) → Numbers st M → length (M .rows) < 512 → r .symbol < 64 → st .last ≤ key r → Numbers (behindRule st (key r) end) (text.withRow M r)
+pub numbers-more : (st : Stage) (M : Table) (r : Row) (end : ℕ) → Numbers st M → length (M .rows) < 512 → r .symbol < 64 → st .last ≤ key r
+    → Numbers (behindRule st (key r) end) (text.withRow M r)
 numbers-more st M r end n room hf later = record {
   head = ap moreRules (n .head) ∙ head-more M r;
   symbols = n .symbols;
@@ -41,4 +44,6 @@ numbers-more st M r end n room hf later = record {
 -- The frames behind a rule, whose frame stands there.
 pub rows-frames : (M : Table) (r : Row) → headFrames (text.withRow M r) ++ rowFrames (M .rows ++ r ∷ []) ≡ headFrames M ++ rowFrames (M .rows) ++ rowFrame r
 rows-frames M r =
-    ap (λ l. l ++ rowFrames (M .rows ++ r ∷ [])) (head-frames M r) ∙ ap (λ l. headFrames M ++ l) (rows-more (M .rows) r) ∙ sym (append-assoc (headFrames M) (rowFrames (M .rows)) (rowFrame r))
+    ap (λ l. l ++ rowFrames (M .rows ++ r ∷ [])) (head-frames M r)
+    ∙ ap (λ l. headFrames M ++ l) (rows-more (M .rows) r)
+    ∙ sym (append-assoc (headFrames M) (rowFrames (M .rows)) (rowFrame r))

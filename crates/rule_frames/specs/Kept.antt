@@ -42,6 +42,7 @@ pub record Entered (F bs : List ℕ) (r : Rule) (i at end then x : ℕ) : Type 0
   pub inside : then ≤ end
   pub entry : x ≡ entryOf i r
 
+-- What reading a rule's fields answers: what is kept for the rule, or the number of no.
 abbrev pub RuleRead : List ℕ → ℕ → ℕ → ℕ → Parsed Rule → Entry → Type 0
 RuleRead F i at end (got r bs) (entry.Rule then x) = Entered F bs r i at end then x
 RuleRead F i at end (got r bs) (entry.Fault n) = ⊥

@@ -6,12 +6,6 @@ use Rattle.head_frames.specs.declared.Next.the-variants as next
 use Rattle.head_frames.proofs.fault.Statement.{statement}
 use Rattle.head_frames.proofs.fault.Tie as tie
 
-enum-told : tie.Need-enum-told
-enum-told c = search needs
-
-enum-known-field : tie.Need-enum-known-field
-enum-known-field c = search needs
-
 returns : tie.Need-returns
 returns c = ap (λ f. next.Wrong (faultOf f)) (sym (c .enum-told .given .1))
 
@@ -19,4 +13,4 @@ returns-2 : tie.Need-returns-2
 returns-2 c = ap (λ f. next.Wrong (faultOf f)) (sym (c .before .field .given .1))
 
 pub fault-spec : {M : Type 1} → statement M
-fault-spec = tie.close (tie.spec enum-told enum-known-field returns returns-2)
+fault-spec = tie.close (tie.spec (λ c. search needs) (λ c. search needs) returns returns-2)

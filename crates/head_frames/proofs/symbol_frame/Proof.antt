@@ -1,9 +1,6 @@
 -- `symbol_frame` meets its contract. Assumes nothing.
 use mathlib.Core.Path.{refl}
-use Prim.Native.Nat.{_<_}
-use native.Mathlib.Omega.{arith}
 use borrow.Author.Needs.{needs}
-use lib.ListN.{length}
 use lib.Seq.{slice}
 use Rattle.text.specs.Fields as text
 use Rattle.fields.proofs.Numbers as field
@@ -13,68 +10,54 @@ use Rattle.head_frames.proofs.symbol_frame.Statement.{statement}
 use Rattle.head_frames.proofs.symbol_frame.Tie as tie
 
 returns : tie.Need-returns
-returns c = λ R ks d e. law.stepped-wrong (c .before .before .before .args .frames .now) R _ 4 _ (symbol.symbol-many ks _ (omega (arith, d .symbols))) refl
-
-within-requires : tie.Need-within-requires
-within-requires c κs = search needs
-
-enum-known-arity : tie.Need-enum-known-arity
-enum-known-arity c = search needs
-
-enum-told : tie.Need-enum-told
-enum-told c = search needs
-
-fault-requires : tie.Need-fault-requires
-fault-requires c κs = search needs
+returns c =
+    let a = c .before .before .before .args in
+    λ R ks d kind. law.stepped-wrong (a .frames .now) R _ 4 _ (symbol.refuse-many d (a .at) (a .end) (c .if1 .taken)) refl
 
 returns-2 : tie.Need-returns-2
 returns-2 c =
-    let a = c .before .before .before .before .before .before .before .args in
+    let room = c .before .before .before .before in
+    let a = room .before .before .before .args in
     let w = c .before .before .before .within in
     let t = c .before .enum-told .given in
-    let f = field.fault-number (a .frames .now) (a .at) (a .end) (t .0 .0) _ (w .result) (t .1) (w .ensures) in
-    λ R ks d e.
-    law.stepped-fault (a .frames .now) R _ (t .0 .0) (w .result) (c .fault .result) (symbol.symbol-fault ks _ (omega (arith, d .symbols)) (t .0 .0) f) (t .1) (c .fault .ensures)
+    λ R ks d kind.
+    law.number-stops (a .frames .now) R (a .at) (a .end) (t .0 .0) _ (w .result) (c .fault .result) (t .1) (c .fault .ensures) _ (w .ensures)
+    (symbol.refuse-arity d (a .at) (a .end) (room .if1 .left) (t .0 .0))
 
 -- What the arity's byte gives.
-numbered : (c : tie.After-known-told) →
+arity-read : (c : tie.After-known-told) →
     let a = c .before .before .before .before .before .before .before .args in
-    field.IsNumber (a .frames .now) (a .at) (a .end) (c .before .arity .given .0 .0) (c .before .arity .given .0 .1 .0) (text.within 0 4 (slice (a .at) (a .end) (a .frames .now)))
-numbered c =
+    let arity = c .before .arity .given .0 in
+    field.IsNumber (a .frames .now) (a .at) (a .end) (arity .0) (arity .1 .0) (text.within 0 4 (slice (a .at) (a .end) (a .frames .now)))
+arity-read c =
     let a = c .before .before .before .before .before .before .before .args in
     let w = c .before .before .before .within in
     field.got-number (a .frames .now) (a .at) (a .end) _ _ _ (w .result) (c .before .arity .given .1) (w .ensures)
 
 returns-3 : tie.Need-returns-3
 returns-3 c =
-    let a = c .before .before .before .before .before .before .before .before .args in
-    let i = numbered (c .before) in
-    λ R ks d e.
-    law.stepped-left (a .frames .now) R _ _ (c .before .before .arity .given .0 .1 .0) (a .end) (symbol.symbol-got ks _ (omega (arith, d .symbols)) _ _ (i .read)) (c .if2 .taken) (c .before .before .before .before .before .before .before .before .pre .2)
-
-add-head : tie.Need-add-head
-add-head c = search needs
+    let room = c .before .before .before .before .before in
+    let s = room .before .before .before in
+    λ R ks d kind. symbol.symbol-over d (s .args .at) (s .args .end) (room .if1 .left) (arity-read (c .before)) R (c .if2 .taken) (s .pre .2)
 
 returns-4 : tie.Need-returns-4
 returns-4 c =
-    let a = c .before .before .before .before .before .before .before .before .args in
-    let i = numbered (c .before) in
-    λ R ks d e.
-    let m : length ks < 64 = omega (arith, d .symbols) in
-    law.stepped-ready (a .frames .now) R _ _ (c .before .before .arity .given .0 .1 .0) (a .end) (symbol.symbol-got ks _ m _ _ (i .read)) _ _ (i .inside) (c .if2 .left)
-    (symbol.symbol-staged d e (a .at) (a .end) _ _ _ (c .before .before .before .before .before .before .before .before .pre .0) (c .before .before .before .before .before .before .before .before .pre .2) m i (c .if2 .left) refl refl refl)
-    refl
+    let room = c .before .before .before .before .before in
+    let s = room .before .before .before in
+    λ R ks d kind.
+    symbol.symbol-next d (s .args .at) (s .args .end) (room .if1 .left) (arity-read (c .before)) (c .if2 .left) (s .pre .0) (s .pre .2) kind
+    R _ refl refl refl
 
 pub symbol-frame-spec : {M : Type 1} → statement M
 symbol-frame-spec =
     tie.close
     (tie.spec
     returns
-    within-requires
-    enum-known-arity
-    enum-told
-    fault-requires
+    (λ c κs. search needs)
+    (λ c. search needs)
+    (λ c. search needs)
+    (λ c κs. search needs)
     returns-2
     returns-3
-    add-head
+    (λ c. search needs)
     returns-4)
