@@ -15,7 +15,7 @@ use Rattle.head_frames.specs.declared.Next.the-variants as next
 use Rattle.head_frames.proofs.StepFrames.{stepped-left, stepped-ready, frame-more, frame-long}
 
 -- The stage behind the end.
-abbrev pub behindEnd : Stage → ℕ → Stage
+abbrev behindEnd : Stage → ℕ → Stage
 behindEnd st end = record { phase = 2; head = st .head; last = st .last; used = end }
 
 module _ {F R : List ℕ} {st : Stage} {M : Table} (a : AtRules F R st M) (at end : ℕ) where
@@ -32,7 +32,7 @@ module _ {F R : List ℕ} {st : Stage} {M : Table} (a : AtRules F R st M) (at en
     frames-all : take end F ≡ framesOf M
     unfolding framesOf
     frames-all =
-        frame-more F (st .used) end (omega arith) inside (headFrames M ++ rowFrames (M .rows)) (slice at end F) 4 (a .frames) kind (ap (λ k. slice k end F) (sym next-to))
+        frame-more F (st .used) end (omega arith) inside _ (slice at end F) 4 (a .frames) kind (ap (λ k. slice k end F) (sym next-to))
         ∙ ap (λ l. headFrames M ++ rowFrames (M .rows) ++ 4 ∷ l) nothing-left
 
     -- The stage behind the end.

@@ -1,5 +1,5 @@
 -- Laws of the lines of a table text.
-pub mod Decoded
+pub mod UsedBytes
 pub mod Stages
-pub mod Going
+pub mod LineByLine
 pub mod Ends

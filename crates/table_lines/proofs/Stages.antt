@@ -13,7 +13,8 @@ use Rattle.head_frames.specs.declared.Next.the-variants as next
 
 -- A stage looks at the bytes that are used, and at no other.
 pub staged-kept : (F F′ R : List ℕ) (st : Stage) (s : text.Stage) → Staged F R st s → take (st .used) F′ ≡ take (st .used) F → Staged F′ R st s
-staged-kept F F′ R st (symbols ks) d e = record { phase = d .phase; symbols = d .symbols; few = d .few; small = d .small; used = d .used; frames = e ∙ d .frames }
+staged-kept F F′ R st (symbols ks) d e =
+    record { phase = d .phase; symbols = d .symbols; few = d .few; small = d .small; used = d .used; frames = e ∙ d .frames }
 staged-kept F F′ R st (rules M) d e = record { phase = d .phase; numbers = d .numbers; used = d .used; frames = e ∙ d .frames; rules = d .rules }
 staged-kept F F′ R st (ended M) d e = record { phase = d .phase; head = d .head; used = d .used; frames = e ∙ d .frames; rules = d .rules }
 
@@ -26,13 +27,13 @@ staged-few F R st (rules M) d e =
 staged-few F R st (ended M) d e = absurd (omega (arith, d .phase))
 
 -- A step leads to the stage that the reader's numbers stand for.
-pub record Leads (F R : List ℕ) (st : Stage) (o : text.Step) : Type 0 where
+pub record FrameLeads (F R : List ℕ) (st : Stage) (o : text.Step) : Type 0 where
   pub stage : text.Stage
   pub step : o ≡ text.next stage
   pub staged : Staged F R st stage
 
 -- An answer with numbers says so.
-pub ready-step : (F R : List ℕ) (st : Stage) (o : text.Step) (r : Next) → r ≡ next.Ready st → Stepped F R o r → Leads F R st o
+pub ready-step : (F R : List ℕ) (st : Stage) (o : text.Step) (r : Next) → r ≡ next.Ready st → Stepped F R o r → FrameLeads F R st o
 ready-step F R st (text.next s) r e h =
     let d : Staged F R st s = rw e at h in
     record { stage = s; step = refl; staged = d }

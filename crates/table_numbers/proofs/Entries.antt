@@ -12,7 +12,7 @@ use lib.Seq.{getD-set-same, getD-set-other}
 use Rattle.words.proofs.Tests.{both-hold}
 use Rattle.machine.specs.Machine.{Row, Table}
 use Rattle.layout.specs.Layout.{entryOf, entryIn}
-use Rattle.table_numbers.specs.Storing.{Put, Rules, entriesFrom}
+use Rattle.table_numbers.specs.Storing.{NumbersPut, RulesNoted, entriesFrom}
 use Rattle.table_numbers.proofs.RuleNumbers.{rule-no}
 
 -- Row r is the one of state q and symbol f.
@@ -50,8 +50,8 @@ own-place r k e =
     omega (arith, eqb-true (r .state) (k / 64) (d .0), eqb-true (r .symbol) (k % 64) (d .1))
 
 -- Behind the last rule nothing is kept, where all places are clear.
-pub entries-none : {R : List ℕ} {n : ℕ} {M : Table} → Rules R n M → (I : List ℕ) → ((k : ℕ) → k < M .states * 64 → getD I (592 + k) 0 ≡ 0)
-    → Put (entriesFrom M n) 592 (M .states * 64) I I
+pub entries-none : {R : List ℕ} {n : ℕ} {M : Table} → RulesNoted R n M → (I : List ℕ) → ((k : ℕ) → k < M .states * 64 → getD I (592 + k) 0 ≡ 0)
+    → NumbersPut (entriesFrom M n) 592 (M .states * 64) I I
 entries-none {R} {n} {M} rules I clear =
     let l : length (M .rows) ≤ n = omega (arith, rules .count) in
     record {
@@ -62,8 +62,8 @@ entries-none {R} {n} {M} rules I clear =
       behind = λ k h. refl;
     }
 
-module _ {R : List ℕ} {n : ℕ} {M : Table} (rules : Rules R n M) (i j : ℕ) (next : j ≡ i + 1) (inside : i < n) {I I′ : List ℕ} (long : length I ≡ 4688)
-    (p : Put (entriesFrom M j) 592 (M .states * 64) I I′) (place entry : ℕ) (at : place ≡ getD R (2 * i) 0 / 131072 % 4096)
+module _ {R : List ℕ} {n : ℕ} {M : Table} (rules : RulesNoted R n M) (i j : ℕ) (next : j ≡ i + 1) (inside : i < n) {I I′ : List ℕ} (long : length I ≡ 4688)
+    (p : NumbersPut (entriesFrom M j) 592 (M .states * 64) I I′) (place entry : ℕ) (at : place ≡ getD R (2 * i) 0 / 131072 % 4096)
     (is : entry ≡ getD R (2 * i + 1) 0) where
   -- The rules from number i on are the rule and those behind it.
   from-here : (k : ℕ) → entriesFrom M i k ≡ entryIn i (rule-no rules i inside .row ∷ drop (suc i) (M .rows)) (k / 64) (k % 64)
@@ -95,7 +95,7 @@ module _ {R : List ℕ} {n : ℕ} {M : Table} (rules : Rules R n M) (i j : ℕ) 
   place-inside = let m = rule-no rules i inside in omega (arith, m .key, m .below, m .small)
 
   -- One rule more.
-  pub entries-more : Put (entriesFrom M i) 592 (M .states * 64) I (set I′ (592 + place) entry)
+  pub entries-more : NumbersPut (entriesFrom M i) 592 (M .states * 64) I (set I′ (592 + place) entry)
   entries-more = record {
     long = length-set I′ (592 + place) entry ∙ p .long;
     here = λ k h. stored k h (picks (rule-no rules i inside .row) (k / 64) (k % 64)) refl;

@@ -10,7 +10,7 @@ use Rattle.layout.specs.Layout.{entryIn, rowsBefore, HeadIn, Firsts, Listed, Gr
 use Rattle.head_frames.specs.declared.Head.{Head}
 use Rattle.head_frames.specs.Staged.{headOf}
 use Rattle.table_numbers.specs.Storing.{Beyond}
-use Rattle.table_numbers.specs.Storing.{headNumbers, Put, Rules, entriesFrom, Filled}
+use Rattle.table_numbers.specs.Storing.{headNumbers, NumbersPut, RulesNoted, entriesFrom, Filled}
 use Rattle.table_numbers.proofs.Puts.{put-front}
 use Rattle.table_numbers.proofs.RuleNumbers.{row-no}
 
@@ -22,15 +22,15 @@ head-blank h k l m = go (decLt k 7)
     go (yes d) = let e : k ≡ 6 = omega arith in ap (λ j. getD (headNumbers h) j 0) e
     go (no d) = let e : k ≡ 7 = omega arith in ap (λ j. getD (headNumbers h) j 0) e
 
-module _ (M : Table) (R : List ℕ) (h : Head) (I I₁ I₂ I₃ I₄ I₅ : List ℕ) (long : length I ≡ 4688) (few : h .states ≤ 64)
-    (many : h .rules ≤ 512) (is : h ≡ headOf M) (rules : Rules R (h .rules) M)
+module _ {M : Table} {R : List ℕ} {h : Head} (I : List ℕ) {I₁ I₂ I₃ I₄ I₅ : List ℕ}
+    (long : length I ≡ 4688) (few : h .states ≤ 64) (many : h .rules ≤ 512) (is : h ≡ headOf M) (rules : RulesNoted R (h .rules) M)
     (front : I₁ ≡ headNumbers h ++ drop 8 I)
-    (firsts : Put (λ q. rowsBefore q (M .rows)) 8 (h .states + 1) I₁ I₂)
-    (rows : Put (λ i. getD R (2 * i) 0) 80 (h .rules) I₂ I₃)
-    (clear : Put (λ k. 0) 592 (h .states * 64) I₃ I₄)
-    (entries : Put (entriesFrom M 0) 592 (M .states * 64) I₄ I₅) where
+    (firsts : NumbersPut (λ q. rowsBefore q (M .rows)) 8 (h .states + 1) I₁ I₂)
+    (rows : NumbersPut (λ i. getD R (2 * i) 0) 80 (h .rules) I₂ I₃)
+    (clear : NumbersPut (λ k. 0) 592 (h .states * 64) I₃ I₄)
+    (entries : NumbersPut (entriesFrom M 0) 592 (M .states * 64) I₄ I₅) where
   -- The head is put in front.
-  head : Put (λ k. getD (headNumbers h) k 0) 0 8 I I₁
+  head : NumbersPut (λ k. getD (headNumbers h) k 0) 0 8 I I₁
   head = put-front (headNumbers h) I I₁ (omega arith) front
 
   -- The table's counts are the head's.

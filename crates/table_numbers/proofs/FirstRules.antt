@@ -10,7 +10,7 @@ use borrow.Author.Tests.{lt-ltb, le-ltb}
 use lib.ListN.{length, getD, set, drop, drop-of-length-le}
 use Rattle.machine.specs.Machine.{Row, Table, Rising}
 use Rattle.layout.specs.Layout.{rowsBefore}
-use Rattle.table_numbers.specs.Storing.{Put, Rules, Passed}
+use Rattle.table_numbers.specs.Storing.{NumbersPut, RulesNoted, RulesPassed}
 use Rattle.table_numbers.proofs.Puts.{put-none, put-more}
 use Rattle.table_numbers.proofs.RuleNumbers.{rule-no}
 
@@ -46,7 +46,7 @@ rising-from rows zero h = h
 rising-from [] (suc i) h = tt
 rising-from (r ∷ rows) (suc i) h = rising-from rows i (rising-rest r rows h)
 
-module _ {R : List ℕ} {n : ℕ} {M : Table} (rules : Rules R n M) (q i : ℕ) where
+module _ {R : List ℕ} {n : ℕ} {M : Table} (rules : RulesNoted R n M) (q i : ℕ) where
   -- Behind the last rule is none.
   pub passed-all : n ≤ i → rowsBefore q (drop i (M .rows)) ≡ 0
   passed-all h = let l : length (M .rows) ≤ i = omega (arith, rules .count) in ap (rowsBefore q) (drop-of-length-le (M .rows) l) ∙ before-none q
@@ -71,7 +71,7 @@ module _ {R : List ℕ} {n : ℕ} {M : Table} (rules : Rules R n M) (q i : ℕ) 
 
 -- The firsts of the states before q are put, and of states from q on the rules before number i are passed.
 pub record FirstsSo (M : Table) (I I′ : List ℕ) (q i : ℕ) : Type 0 where
-  pub put : Put (λ p. rowsBefore p (M .rows)) 8 q I I′
+  pub put : NumbersPut (λ p. rowsBefore p (M .rows)) 8 q I I′
   pub passed : (p : ℕ) → q ≤ p → rowsBefore p (M .rows) ≡ i + rowsBefore p (drop i (M .rows))
 
 -- None is put yet.
@@ -79,7 +79,7 @@ pub firsts-none : (M : Table) (I : List ℕ) → FirstsSo M I I 0 0
 firsts-none M I = record { put = put-none (λ p. rowsBefore p (M .rows)) 8 I; passed = λ p h. omega arith }
 
 -- One first more.
-pub firsts-more : {M : Table} {I I′ : List ℕ} {q i : ℕ} (j : ℕ) → FirstsSo M I I′ q i → 8 + q < length I → Passed M q i j
+pub firsts-more : {M : Table} {I I′ : List ℕ} {q i : ℕ} (j : ℕ) → FirstsSo M I I′ q i → 8 + q < length I → RulesPassed M q i j
     → FirstsSo M I (set I′ (8 + q) j) (q + 1) j
 firsts-more {M} {I} {I′} {q} {i} j s inside a =
     record {

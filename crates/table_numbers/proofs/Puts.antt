@@ -6,13 +6,13 @@ use native.Mathlib.Omega.{arith}
 use native.Mathlib.Decide.{decLt}
 use lib.ListN.{length, getD, set, drop, length-append, length-drop, length-set, List·getD-append}
 use lib.Seq.{getD-set-same, getD-set-other, getD-append-add, getD-drop}
-use Rattle.table_numbers.specs.Storing.{Put}
+use Rattle.table_numbers.specs.Storing.{NumbersPut}
 
 -- Nothing is put yet.
-pub put-none : (f : ℕ → ℕ) (a : ℕ) (I : List ℕ) → Put f a 0 I I
+pub put-none : (f : ℕ → ℕ) (a : ℕ) (I : List ℕ) → NumbersPut f a 0 I I
 put-none f a I = record { long = refl; here = λ i h. absurd (omega arith); before = λ k h. refl; behind = λ k h. refl }
 
-module _ {f : ℕ → ℕ} {a n : ℕ} {I I′ : List ℕ} (p : Put f a n I I′) (v : ℕ) (inside : a + n < length I) (is : v ≡ f n) where
+module _ {f : ℕ → ℕ} {a n : ℕ} {I I′ : List ℕ} (p : NumbersPut f a n I I′) (v : ℕ) (inside : a + n < length I) (is : v ≡ f n) where
   -- The numbers with the one that is stored behind them.
   abbrev more : List ℕ
   more = set I′ (a + n) v
@@ -25,7 +25,7 @@ module _ {f : ℕ → ℕ} {a n : ℕ} {I I′ : List ℕ} (p : Put f a n I I′
       ap (λ k. getD more (a + k) 0) e ∙ getD-set-same I′ (a + n) v 0 (omega (arith, p .long)) ∙ is ∙ ap f (sym e)
 
   -- One number more is put.
-  pub put-more : Put f a (n + 1) I more
+  pub put-more : NumbersPut f a (n + 1) I more
   put-more = record {
     long = length-set I′ (a + n) v ∙ p .long;
     here = λ i h. here-more i h (decLt i n);
@@ -34,7 +34,7 @@ module _ {f : ℕ → ℕ} {a n : ℕ} {I I′ : List ℕ} (p : Put f a n I I′
   }
 
 -- A list in front of what was there is put there.
-pub put-front : (xs I I′ : List ℕ) → length xs ≤ length I → I′ ≡ xs ++ drop (length xs) I → Put (λ k. getD xs k 0) 0 (length xs) I I′
+pub put-front : (xs I I′ : List ℕ) → length xs ≤ length I → I′ ≡ xs ++ drop (length xs) I → NumbersPut (λ k. getD xs k 0) 0 (length xs) I I′
 put-front xs I I′ h e =
     let n : ℕ = length xs in
     record {

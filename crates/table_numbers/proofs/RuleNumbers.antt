@@ -11,10 +11,10 @@ use Rattle.layout.specs.Layout.{rowFrames, headFrames, framesOf, entryOf, rowNu
 use Rattle.layout.proofs.Fit.{frames-fit}
 use Rattle.layout.proofs.Rows.{row-long}
 use Rattle.head_frames.specs.Staged.{kept}
-use Rattle.table_numbers.specs.Storing.{Rules}
+use Rattle.table_numbers.specs.Storing.{RulesNoted}
 
 -- Row i of rows of which P holds, whose first has number j and whose frames stand from p on: where its rule's bytes stand, and its numbers among ks.
-record RowIn (P : Row → Type 0) (ks : List ℕ) (j p : ℕ) (rows : List Row) (i : ℕ) : Type 0 where
+record RowKept (P : Row → Type 0) (ks : List ℕ) (j p : ℕ) (rows : List Row) (i : ℕ) : Type 0 where
   row : Row
   rest : drop i rows ≡ row ∷ drop (suc i) rows
   place : ℕ
@@ -24,7 +24,7 @@ record RowIn (P : Row → Type 0) (ks : List ℕ) (j p : ℕ) (rows : List Row) 
   holds : P row
 
 -- Each row's numbers stand where its number says.
-row-in : (P : Row → Type 0) (j p : ℕ) (rows : List Row) (i : ℕ) → Every P rows → i < length rows → RowIn P (kept j p rows) j p rows i
+row-in : (P : Row → Type 0) (j p : ℕ) (rows : List Row) (i : ℕ) → Every P rows → i < length rows → RowKept P (kept j p rows) j p rows i
 unfolding kept rowFrames
 row-in P j p [] i h l = absurd (omega arith)
 row-in P j p (r ∷ rows) zero h l =
@@ -86,7 +86,7 @@ rows-end : {M : Table} → Limited M → length (headFrames M) + length (rowFram
 unfolding framesOf
 rows-end {M} l = omega (arith, simp length-append at (frames-fit l))
 
-module _ {R : List ℕ} {n : ℕ} {M : Table} (rules : Rules R n M) (i : ℕ) (inside : i < n) where
+module _ {R : List ℕ} {n : ℕ} {M : Table} (rules : RulesNoted R n M) (i : ℕ) (inside : i < n) where
   -- A number of the rules is one of those that are kept.
   number-kept : (k : ℕ) → k < 2 * n → getD R k 0 ≡ getD (kept 0 (length (headFrames M)) (M .rows)) k 0
   number-kept k h = sym (getD-take (2 * length (M .rows)) R k 0 (omega (arith, rules .count))) ∙ ap (λ l. getD l k 0) (rules .noted)

@@ -15,20 +15,20 @@ abbrev pub headNumbers : Head → List ℕ
 headNumbers h = h .symbols ∷ h .states ∷ h .start ∷ h .rules ∷ h .before ∷ h .after ∷ 0 ∷ 0 ∷ []
 
 -- The n numbers of I′ from place a on are those of f, and all others are as in I.
-pub record Put (f : ℕ → ℕ) (a n : ℕ) (I I′ : List ℕ) : Type 0 where
+pub record NumbersPut (f : ℕ → ℕ) (a n : ℕ) (I I′ : List ℕ) : Type 0 where
   pub long : length I′ ≡ length I
   pub here : (i : ℕ) → i < n → getD I′ (a + i) 0 ≡ f i
   pub before : (k : ℕ) → k < a → getD I′ k 0 ≡ getD I k 0
   pub behind : (k : ℕ) → a + n ≤ k → getD I′ k 0 ≡ getD I k 0
 
 -- The list R begins with the two numbers of each of the n rules of the limited table M.
-pub record Rules (R : List ℕ) (n : ℕ) (M : Table) : Type 0 where
+pub record RulesNoted (R : List ℕ) (n : ℕ) (M : Table) : Type 0 where
   pub limited : Limited M
   pub count : n ≡ length (M .rows)
   pub noted : Noted R M
 
 -- The rules from i on and before j are those of states below q, and none behind j is.
-pub record Passed (M : Table) (q i j : ℕ) : Type 0 where
+pub record RulesPassed (M : Table) (q i j : ℕ) : Type 0 where
   pub below : (p : ℕ) → q ≤ p → i + rowsBefore p (drop i (M .rows)) ≡ j + rowsBefore p (drop j (M .rows))
   pub none : rowsBefore q (drop j (M .rows)) ≡ 0
 

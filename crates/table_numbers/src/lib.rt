@@ -9,7 +9,7 @@ ghost use Rattle.machine.specs.Machine.{Table};
 ghost use Rattle.text.specs.Limits.{symbolsMost};
 ghost use Rattle.layout.specs.Layout.{numbersSize, firstsFrom, rulesFrom, gridFrom, rowsBefore};
 ghost use Rattle.head_frames.specs.Staged.{headOf};
-ghost use Rattle.table_numbers.specs.Storing.{headNumbers, Put, Rules, Passed, entriesFrom, Filled};
+ghost use Rattle.table_numbers.specs.Storing.{headNumbers, NumbersPut, RulesNoted, RulesPassed, entriesFrom, Filled};
 
 // Where in the numbers the states' first rules stand, the rules, and what is kept for each state and
 // symbol.
@@ -51,7 +51,7 @@ fn put_head(numbers: &mut [u64], head: Head)
 // The first of n rules, from number `from` on, whose state is not below q; n if there is none.
 fn first_from(rules: &[u64], n: usize, from: usize, q: usize) -> usize
     requires { ⌜ (length (now rules) ≡ 1024) × (n ≤ 512) × (from ≤ n) ⌝ }
-    ensures { λ r. ⌜ ((M : Table) → Rules (now (rules .entry)) n M → Passed M q from r) ⌝ }
+    ensures { λ r. ⌜ ((M : Table) → RulesNoted (now (rules .entry)) n M → RulesPassed M q from r) ⌝ }
     ensures { λ r. ⌜ (from ≤ r) × (r ≤ n) ⌝ }
 {
     let mut i = from;
@@ -68,8 +68,8 @@ fn first_from(rules: &[u64], n: usize, from: usize, q: usize) -> usize
 fn put_firsts(numbers: &mut [u64], rules: &[u64], n: usize, states: usize)
     requires { ⌜ (length (now numbers) ≡ numbersSize) × (length (now rules) ≡ 1024) ⌝ }
     requires { ⌜ (n ≤ 512) × (states ≤ 64) ⌝ }
-    ensures { λ _. ⌜ ((M : Table) → Rules (now (rules .entry)) n M
-        → Put (λ q. rowsBefore q (M .rows)) firstsFrom (states + 1) (now (numbers .entry)) (now (numbers .exit))) ⌝ }
+    ensures { λ _. ⌜ ((M : Table) → RulesNoted (now (rules .entry)) n M
+        → NumbersPut (λ q. rowsBefore q (M .rows)) firstsFrom (states + 1) (now (numbers .entry)) (now (numbers .exit))) ⌝ }
     ensures { λ _. ⌜ length (now (numbers .exit)) ≡ numbersSize ⌝ }
 {
     let mut q = 0;
@@ -84,7 +84,7 @@ fn put_firsts(numbers: &mut [u64], rules: &[u64], n: usize, states: usize)
 // Stores each rule's number as a row, in turn.
 fn put_rows(numbers: &mut [u64], rules: &[u64], n: usize)
     requires { ⌜ (length (now numbers) ≡ numbersSize) × (length (now rules) ≡ 1024) × (n ≤ 512) ⌝ }
-    ensures { λ _. ⌜ Put (λ i. getD (now (rules .entry)) (2 * i) 0) rulesFrom n (now (numbers .entry)) (now (numbers .exit)) ⌝ }
+    ensures { λ _. ⌜ NumbersPut (λ i. getD (now (rules .entry)) (2 * i) 0) rulesFrom n (now (numbers .entry)) (now (numbers .exit)) ⌝ }
 {
     let mut i = 0;
     while i < n {
@@ -96,7 +96,7 @@ fn put_rows(numbers: &mut [u64], rules: &[u64], n: usize)
 // Clears the first n places of what is kept for states and symbols.
 fn clear(numbers: &mut [u64], n: usize)
     requires { ⌜ (length (now numbers) ≡ numbersSize) × (n ≤ 4096) ⌝ }
-    ensures { λ _. ⌜ Put (λ _. 0) gridFrom n (now (numbers .entry)) (now (numbers .exit)) ⌝ }
+    ensures { λ _. ⌜ NumbersPut (λ _. 0) gridFrom n (now (numbers .entry)) (now (numbers .exit)) ⌝ }
 {
     let mut i = 0;
     while i < n {
@@ -109,8 +109,8 @@ fn clear(numbers: &mut [u64], n: usize)
 // clear.
 fn put_entries(numbers: &mut [u64], rules: &[u64], n: usize)
     requires { ⌜ (length (now numbers) ≡ numbersSize) × (length (now rules) ≡ 1024) × (n ≤ 512) ⌝ }
-    ensures { λ _. ⌜ ((M : Table) → Rules (now (rules .entry)) n M → ((k : ℕ) → k < M .states * symbolsMost → getD (now (numbers .entry)) (gridFrom + k) 0 ≡ 0)
-        → Put (entriesFrom M 0) gridFrom (M .states * symbolsMost) (now (numbers .entry)) (now (numbers .exit))) ⌝ }
+    ensures { λ _. ⌜ ((M : Table) → RulesNoted (now (rules .entry)) n M → ((k : ℕ) → k < M .states * symbolsMost → getD (now (numbers .entry)) (gridFrom + k) 0 ≡ 0)
+        → NumbersPut (entriesFrom M 0) gridFrom (M .states * symbolsMost) (now (numbers .entry)) (now (numbers .exit))) ⌝ }
     ensures { λ _. ⌜ length (now (numbers .exit)) ≡ numbersSize ⌝ }
 {
     let mut i = n;
@@ -124,7 +124,7 @@ fn put_entries(numbers: &mut [u64], rules: &[u64], n: usize)
 pub fn fill(numbers: &mut [u64], head: Head, rules: &[u64])
     requires { ⌜ (length (now numbers) ≡ numbersSize) × (length (now rules) ≡ 1024) ⌝ }
     requires { ⌜ (head .states ≤ 64) × (head .rules ≤ 512) ⌝ }
-    ensures { λ _. ⌜ ((M : Table) → head ≡ headOf M → Rules (now (rules .entry)) (head .rules) M
+    ensures { λ _. ⌜ ((M : Table) → head ≡ headOf M → RulesNoted (now (rules .entry)) (head .rules) M
         → Filled (now (numbers .entry)) (now (numbers .exit)) M) ⌝ }
 {
     let n = head.rules;

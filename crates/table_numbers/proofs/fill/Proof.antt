@@ -8,20 +8,18 @@ use Rattle.table_numbers.proofs.fill.Tie as tie
 
 returns : tie.Need-returns
 returns c =
-    let c6 = c .before .before .before .before .before .before in
-    let c10 = c6 .before .before .before .before in
-    let c14 = c10 .before .before .before .before in
-    let c18 = c14 .before .before .before .before in
-    let c22 = c18 .before .before .before .before in
-    let s = c22 in
-    let h = s .args .head in
+    let cleared = c .before .before .before .before .before .before in
+    let rows = cleared .before .before .before .before in
+    let firsts = rows .before .before .before .before in
+    let head = firsts .before .before .before .before in
+    let s = head .before .before .before .before in
     λ M is rules.
-    filled M (s .args .rules .now) h (s .args .numbers .now) _ _ _ _ _ (s .pre .0 .0) (s .pre .1 .0) (s .pre .1 .1) is rules
-    (c18 .put-head .ensures)
-    (c14 .put-firsts .ensures .0 M rules)
-    (c10 .put-rows .ensures)
-    (c6 .clear .ensures)
-    (c .before .before .put-entries .ensures .0 M rules (λ k l. c6 .clear .ensures .here k (omega (arith, ap (λ x. x .states) is))))
+    filled (s .args .numbers .now) (s .pre .0 .0) (s .pre .1 .0) (s .pre .1 .1) is rules
+    (head .put-head .ensures)
+    (firsts .put-firsts .ensures .0 M rules)
+    (rows .put-rows .ensures)
+    (cleared .clear .ensures)
+    (c .before .before .put-entries .ensures .0 M rules (λ k l. cleared .clear .ensures .here k (omega (arith, ap (λ x. x .states) is))))
 
 pub fill-spec : {M : Type 1} → statement M
 fill-spec =

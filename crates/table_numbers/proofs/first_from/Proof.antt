@@ -5,7 +5,7 @@ use mathlib.Core.Path.{_≡_, refl, _∙_}
 use lib.ListN.{getD, drop}
 use Rattle.machine.specs.Machine.{Table}
 use Rattle.layout.specs.Layout.{rowsBefore}
-use Rattle.table_numbers.specs.Storing.{Rules}
+use Rattle.table_numbers.specs.Storing.{RulesNoted}
 use Rattle.table_numbers.proofs.FirstRules.{passed-all, passed-to, passed-one}
 use borrow.Author.Needs.{needs}
 use Rattle.table_numbers.proofs.first_from.Statement.{statement}
@@ -13,7 +13,7 @@ use Rattle.table_numbers.proofs.first_from.Tie as tie
 
 abbrev Inv-loop : tie.InvT-loop
 Inv-loop rules n from q i₀ i = (from ≤ i) × (i ≤ n)
-    × ((M : Table) → Rules rules n M → (p : ℕ) → q ≤ p → from + rowsBefore p (drop from (M .rows)) ≡ i + rowsBefore p (drop i (M .rows)))
+    × ((M : Table) → RulesNoted rules n M → (p : ℕ) → q ≤ p → from + rowsBefore p (drop from (M .rows)) ≡ i + rowsBefore p (drop i (M .rows)))
 
 abbrev μ-loop : tie.MeasureT-loop
 μ-loop rules n from q i₀ i = n - i
@@ -23,19 +23,19 @@ loop-holds c = (omega arith, c .before .pre .2, λ M rules p h. refl)
 
 returns : tie.Need-returns Inv-loop μ-loop
 returns c =
-    let c4 = c .before .before .before .before in
-    let c6 = c4 .before .before in
-    let l = c4 .loop in
-    let s : c6 .args .q ≤ getD (c6 .args .rules .now) (2 * l .i) 0 / 8388608 % 64 = omega (arith, c .if1 .taken, c .before .state-of .ensures) in
+    let turn = c .before .before .before .before in
+    let a = turn .before .before .args in
+    let l = turn .loop in
+    let s : a .q ≤ getD (a .rules .now) (2 * l .i) 0 / 8388608 % 64 = omega (arith, c .if1 .taken, c .before .state-of .ensures) in
     let t = c .before .before .before .loop-test .taken in
     (λ M rules. record { below = l .inv .2 M rules; none = passed-to rules _ (l .i) t s }, (l .inv .0, l .inv .1))
 
 loop-again : tie.Need-loop-again Inv-loop μ-loop
 loop-again c =
-    let c4 = c .before .before .before .before in
-    let c6 = c4 .before .before in
-    let l = c4 .loop in
-    let s : getD (c6 .args .rules .now) (2 * l .i) 0 / 8388608 % 64 < c6 .args .q = omega (arith, c .if1 .left, c .before .state-of .ensures) in
+    let turn = c .before .before .before .before in
+    let a = turn .before .before .args in
+    let l = turn .loop in
+    let s : getD (a .rules .now) (2 * l .i) 0 / 8388608 % 64 < a .q = omega (arith, c .if1 .left, c .before .state-of .ensures) in
     let t = c .before .before .before .loop-test .taken in
     (omega (arith, l .inv .0), omega arith, λ M rules p h. l .inv .2 M rules p h ∙ passed-one rules _ (l .i) t s p h)
 

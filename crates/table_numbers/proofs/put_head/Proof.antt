@@ -7,18 +7,6 @@ use borrow.Author.Needs.{needs}
 use Rattle.table_numbers.proofs.put_head.Statement.{statement}
 use Rattle.table_numbers.proofs.put_head.Tie as tie
 
-slice-write-numbers-5 : tie.Need-slice-write-numbers-5
-slice-write-numbers-5 c = simp length-set (omega (arith, c .pre))
-
-slice-write-numbers-6 : tie.Need-slice-write-numbers-6
-slice-write-numbers-6 c = simp length-set (omega (arith, c .pre))
-
-slice-write-numbers-7 : tie.Need-slice-write-numbers-7
-slice-write-numbers-7 c = simp length-set (omega (arith, c .pre))
-
-slice-write-numbers-8 : tie.Need-slice-write-numbers-8
-slice-write-numbers-8 c = simp length-set (omega (arith, c .pre))
-
 returns : tie.Need-returns
 returns c = sets-eq (headNumbers (c .args .head)) (c .args .numbers .now) 0 (omega (arith, c .pre))
 
@@ -30,9 +18,9 @@ put-head-spec =
     (λ c. search needs)
     (λ c. search needs)
     (λ c. search needs)
-    slice-write-numbers-5
-    slice-write-numbers-6
-    slice-write-numbers-7
-    slice-write-numbers-8
+    (λ c. simp length-set (omega (arith, c .pre)))
+    (λ c. simp length-set (omega (arith, c .pre)))
+    (λ c. simp length-set (omega (arith, c .pre)))
+    (λ c. simp length-set (omega (arith, c .pre)))
     (λ c. search needs)
     returns)

@@ -3,14 +3,14 @@ use native.Mathlib.Omega.{arith}
 use Prim.Native.Nat.{_*_, _-_, _≤_}
 use mathlib.Core.Path.{_≡_, refl, subst}
 use lib.ListN.{getD}
-use Rattle.table_numbers.specs.Storing.{Put}
+use Rattle.table_numbers.specs.Storing.{NumbersPut}
 use Rattle.table_numbers.proofs.Puts.{put-none, put-more}
 use borrow.Author.Needs.{needs}
 use Rattle.table_numbers.proofs.put_rows.Statement.{statement}
 use Rattle.table_numbers.proofs.put_rows.Tie as tie
 
 abbrev Inv-loop : tie.InvT-loop
-Inv-loop numbers₀ rules n i₀ numbers i = (i ≤ n) × Put (λ k. getD rules (2 * k) 0) 80 i numbers₀ numbers
+Inv-loop numbers₀ rules n i₀ numbers i = (i ≤ n) × NumbersPut (λ k. getD rules (2 * k) 0) 80 i numbers₀ numbers
 
 abbrev μ-loop : tie.MeasureT-loop
 μ-loop numbers₀ rules n i₀ numbers i = n - i
@@ -29,7 +29,7 @@ returns c =
     let a = c .before .before .args in
     let l = c .before .loop in
     let d : l .i ≡ a .n = omega arith in
-    subst (λ k. Put (λ i. getD (a .rules .now) (2 * i) 0) 80 k (a .numbers .now) (l .numbers)) d (l .inv .1)
+    subst (λ k. NumbersPut (λ i. getD (a .rules .now) (2 * i) 0) 80 k (a .numbers .now) (l .numbers)) d (l .inv .1)
 
 pub put-rows-spec : {M : Type 1} → statement M
 put-rows-spec =

@@ -13,7 +13,7 @@ use Rattle.head_frames.specs.Staged.{Staged}
 use Rattle.head_frames.specs.declared.Stage.{Stage}
 
 -- The frames up to a stage.
-unfoldable pub decoded : text.Stage → List ℕ
+unfoldable decoded : text.Stage → List ℕ
 decoded (symbols ks) = symbolFrames ks
 decoded (rules M) = headFrames M ++ rowFrames (M .rows)
 decoded (ended M) = framesOf M
@@ -23,7 +23,9 @@ takes-decoded : (s : text.Stage) (frame : List ℕ) (s′ : text.Stage) → Take
 unfolding decoded headFrames rowFrames framesOf initialFrame
 takes-decoded s frame s′ (symbol ks a e f g h k) = rw (e, f, g) (symbols-more ks a)
 takes-decoded s frame s′ (start M e f g h k) = rw (e, f, g, h) (append-nil (symbolFrames (M .arities) ++ initialFrame M))
-takes-decoded s frame s′ (row M r e f g h) = rw (e, f, g) (ap (λ x. symbolFrames (M .arities) ++ initialFrame M ++ x) (rows-more (M .rows) r) ∙ sym (append-assoc (symbolFrames (M .arities) ++ initialFrame M) (rowFrames (M .rows)) (rowFrame r)))
+takes-decoded s frame s′ (row M r e f g h) =
+    let front : List ℕ = symbolFrames (M .arities) ++ initialFrame M in
+    rw (e, f, g) (ap (λ x. front ++ x) (rows-more (M .rows) r) ∙ sym (append-assoc front (rowFrames (M .rows)) (rowFrame r)))
 takes-decoded s frame s′ (end M e f g) = rw (e, f, g)
 
 -- The reader uses as many bytes as are decoded.
@@ -34,7 +36,10 @@ staged-used F R st (rules M) d = d .used
 staged-used F R st (ended M) d = d .used
 
 -- A frame that is read uses its bytes.
-pub used-more : (F R F′ R′ : List ℕ) (st st′ : Stage) (s s′ : text.Stage) (frame : List ℕ) → AtMost 255 frame → text.step s frame ≡ text.next s′ → Staged F R st s → Staged F′ R′ st′ s′
-    → st′ .used ≡ st .used + length frame
+pub used-more : (F R F′ R′ : List ℕ) (st st′ : Stage) (s s′ : text.Stage) (frame : List ℕ) → AtMost 255 frame → text.step s frame ≡ text.next s′
+    → Staged F R st s → Staged F′ R′ st′ s′ → st′ .used ≡ st .used + length frame
 used-more F R F′ R′ st st′ s s′ frame h e d d′ =
-    staged-used F′ R′ st′ s′ d′ ∙ ap length (takes-decoded s frame s′ (step-takes s frame s′ h e)) ∙ length-append (decoded s) frame ∙ ap (λ n. n + length frame) (sym (staged-used F R st s d))
+    staged-used F′ R′ st′ s′ d′
+    ∙ ap length (takes-decoded s frame s′ (step-takes s frame s′ h e))
+    ∙ length-append (decoded s) frame
+    ∙ ap (λ n. n + length frame) (sym (staged-used F R st s d))

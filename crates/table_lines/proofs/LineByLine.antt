@@ -19,11 +19,11 @@ use Rattle.lines.specs.Scan.{scan, bad}
 use Rattle.lines.proofs.Laws.{scan-small, read-whole-next, read-whole-wrong, read-bad, IsWhole}
 use Rattle.head_frames.specs.Staged.{Staged}
 use Rattle.head_frames.specs.declared.Stage.{Stage}
-use Rattle.table_lines.proofs.Decoded.{used-more}
-use Rattle.table_lines.proofs.Stages.{staged-kept, Leads}
+use Rattle.table_lines.proofs.UsedBytes.{used-more}
+use Rattle.table_lines.proofs.Stages.{staged-kept, FrameLeads}
 
 -- The lines before `at` are read, and those from there on decide.
-pub record Going (T F R : List ℕ) (st : Stage) (at : ℕ) : Type 0 where
+pub record ReadUpTo (T F R : List ℕ) (st : Stage) (at : ℕ) : Type 0 where
   pub stage : text.Stage
   pub staged : Staged F R st stage
   pub rest : readTable T ≡ readLines stage at (linesOf (drop at T))
@@ -33,9 +33,9 @@ pub record Going (T F R : List ℕ) (st : Stage) (at : ℕ) : Type 0 where
   pub rules : length R ≡ 1024
 
 -- Nothing is read yet.
-pub going-begin : (T F R : List ℕ) (st : Stage) → 1 ≤ length T → length T ≤ textMost → length F ≡ framesSize → length R ≡ 1024 → Staged F R st (text.symbols [])
-    → st .used ≡ 0 → Going T F R st 0
-going-begin T F R st h k b i d e =
+pub up-to-begin : (T F R : List ℕ) (st : Stage) → 1 ≤ length T → length T ≤ textMost → length F ≡ framesSize → length R ≡ 1024 → Staged F R st (text.symbols [])
+    → st .used ≡ 0 → ReadUpTo T F R st 0
+up-to-begin T F R st h k b i d e =
     record { stage = text.symbols []; staged = d; rest = read-fit T h k; inside = omega arith; room = omega arith; bytes = b; rules = i }
 
 -- ---- bytes put into bytes
@@ -53,19 +53,19 @@ module _ (p q r : List ℕ) (a : ℕ) (e : length p ≡ a) where
 
 -- ---- one line
 
-module _ {T F R : List ℕ} {st : Stage} {at : ℕ} (g : Going T F R st at) where
+module _ {T F R : List ℕ} {st : Stage} {at : ℕ} (g : ReadUpTo T F R st at) where
   -- A bad line is 2 where it starts.
-  pub going-bad : at < length T → scan (drop at T) ≡ bad → readTable T ≡ refused 2 at
-  going-bad h e = g .rest ∙ read-bad (g .stage) at (drop at T) (λ n. omega (arith, length-drop at T, ap length n)) e
+  pub line-bad : at < length T → scan (drop at T) ≡ bad → readTable T ≡ refused 2 at
+  line-bad h e = g .rest ∙ read-bad (g .stage) at (drop at T) (λ n. omega (arith, length-drop at T, ap length n)) e
 
   -- At the text's end the stage decides.
-  pub going-end : length T ≤ at → readTable T ≡ finish (g .stage) at
+  pub text-end : length T ≤ at → readTable T ≡ finish (g .stage) at
   unfolding linesOf readLines
-  going-end h = g .rest ∙ ap (λ t. readLines (g .stage) at (linesOf t)) (drop-of-length-le T h)
+  text-end h = g .rest ∙ ap (λ t. readLines (g .stage) at (linesOf t)) (drop-of-length-le T h)
 
   -- A table that is given there is within the limits.
   pub end-limited : length T ≤ at → (M : Table) → finish (g .stage) at ≡ given M → Limited M
-  end-limited h M e = read-limited T M (going-end h ∙ e)
+  end-limited h M e = read-limited T M (text-end h ∙ e)
 
   module _ {F′ : List ℕ} {n then : ℕ} (w : IsWhole T (scan (drop at T)) at (st .used) n then F F′) (fit : length T ≤ textMost) where
     -- The frame fits behind the bytes that are used.
@@ -87,7 +87,9 @@ module _ {T F R : List ℕ} {st : Stage} {at : ℕ} (g : Going T F R st at) wher
 
     -- Behind them stands the frame.
     line-frame : slice (st .used) (st .used + n) F′ ≡ w .bytes
-    line-frame = ap (slice (st .used) (st .used + n)) (w .put .put) ∙ put-part (take (st .used) F) (w .bytes) (drop (st .used + n) F) (st .used) line-used n (sym (w .put .bytes))
+    line-frame =
+        ap (slice (st .used) (st .used + n)) (w .put .put)
+        ∙ put-part (take (st .used) F) (w .bytes) (drop (st .used + n) F) (st .used) line-used n (sym (w .put .bytes))
 
     -- The stage is as it was.
     pub line-staged : Staged F′ R st (g .stage)
@@ -95,18 +97,25 @@ module _ {T F R : List ℕ} {st : Stage} {at : ℕ} (g : Going T F R st at) wher
 
     -- A wrong frame is refused where its line starts.
     pub line-wrong : (k : ℕ) → text.step (g .stage) (slice (st .used) (st .used + n) F′) ≡ text.wrong k → readTable T ≡ refused k at
-    line-wrong k e = g .rest ∙ read-whole-wrong (g .stage) at (drop at T) (w .bytes) (w .left) k (w .scanned) (ap (text.step (g .stage)) (sym line-frame) ∙ e)
+    line-wrong k e =
+        g .rest
+        ∙ read-whole-wrong (g .stage) at (drop at T) (w .bytes) (w .left) k (w .scanned) (ap (text.step (g .stage)) (sym line-frame) ∙ e)
 
     -- A frame that is read leads on to the next line.
-    pub line-next : (R′ : List ℕ) (st′ : Stage) → Leads F′ R′ st′ (text.step (g .stage) (slice (st .used) (st .used + n) F′)) → length R′ ≡ 1024 → Going T F′ R′ st′ then
+    pub line-next : (R′ : List ℕ) (st′ : Stage) → FrameLeads F′ R′ st′ (text.step (g .stage) (slice (st .used) (st .used + n) F′)) → length R′ ≡ 1024
+        → ReadUpTo T F′ R′ st′ then
     line-next R′ st′ l i =
         let s : text.step (g .stage) (w .bytes) ≡ text.next (l .stage) = ap (text.step (g .stage)) (sym line-frame) ∙ l .step in
-        let u : st′ .used ≡ st .used + length (w .bytes) = used-more F R F′ R′ st st′ (g .stage) (l .stage) (w .bytes) (scan-small (drop at T) (w .bytes) (w .left) (w .scanned)) s (g .staged) (l .staged) in
+        let small = scan-small (drop at T) (w .bytes) (w .left) (w .scanned) in
+        let u : st′ .used ≡ st .used + length (w .bytes) = used-more F R F′ R′ st st′ _ _ (w .bytes) small s (g .staged) (l .staged) in
         let p : at + suc (2 * length (w .bytes)) ≡ then = omega (arith, w .put .next, w .put .bytes) in
         record {
           stage = l .stage;
           staged = l .staged;
-          rest = g .rest ∙ read-whole-next (g .stage) at (drop at T) (w .bytes) (w .left) (l .stage) (w .scanned) s ∙ ap (λ a. readLines (l .stage) a (linesOf (w .left))) p ∙ ap (λ t. readLines (l .stage) then (linesOf t)) (sym (w .put .rest));
+          rest = g .rest
+              ∙ read-whole-next (g .stage) at (drop at T) (w .bytes) (w .left) (l .stage) (w .scanned) s
+              ∙ ap (λ a. readLines (l .stage) a (linesOf (w .left))) p
+              ∙ ap (λ t. readLines (l .stage) then (linesOf t)) (sym (w .put .rest));
           inside = w .put .inside;
           room = omega (arith, g .room, w .put .next, w .put .bytes);
           bytes = line-bytes;
