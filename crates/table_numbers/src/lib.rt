@@ -109,7 +109,8 @@ fn clear(numbers: &mut [u64], n: usize)
 // clear.
 fn put_entries(numbers: &mut [u64], rules: &[u64], n: usize)
     requires { ⌜ (length (now numbers) ≡ numbersSize) × (length (now rules) ≡ 1024) × (n ≤ 512) ⌝ }
-    ensures { λ _. ⌜ ((M : Table) → RulesNoted (now (rules .entry)) n M → ((k : ℕ) → k < M .states * symbolsMost → getD (now (numbers .entry)) (gridFrom + k) 0 ≡ 0)
+    ensures { λ _. ⌜ ((M : Table) → RulesNoted (now (rules .entry)) n M
+        → ((k : ℕ) → k < M .states * symbolsMost → getD (now (numbers .entry)) (gridFrom + k) 0 ≡ 0)
         → NumbersPut (entriesFrom M 0) gridFrom (M .states * symbolsMost) (now (numbers .entry)) (now (numbers .exit))) ⌝ }
     ensures { λ _. ⌜ length (now (numbers .exit)) ≡ numbersSize ⌝ }
 {

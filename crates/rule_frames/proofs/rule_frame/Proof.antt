@@ -194,7 +194,7 @@ append-requires : tie.Need-append-requires
 append-requires c κs =
     let symbol = c .before .before .before .before .before .before .before .before .before .before .before .before in
     let room = symbol .before .before .before .before .before .before .before .before in
-    (room .if1 .left, room .before .before .before .before .pre .0 .4)
+    (omega (arith, room .if1 .left, symbol-small symbol), room .before .before .before .before .pre .0 .4)
 
 behind-rule-requires : tie.Need-behind-rule-requires
 behind-rule-requires c κs =

@@ -9,7 +9,8 @@ use Rattle.lines.specs.Scan.{scan, bad, Kept}
 use Rattle.lines.proofs.Laws.{IsWhole, whole-taken, bad-taken}
 use Rattle.table_lines.proofs.Stages as stage
 use Rattle.table_lines.proofs.Ends as law
-use Rattle.table_lines.proofs.LineByLine.{ReadUpTo, up-to-begin, line-bad, text-end, end-limited, line-fits, line-bytes, line-staged, line-wrong, line-next}
+use Rattle.table_lines.proofs.LineByLine.{ReadUpTo, up-to-begin, text-end, end-limited}
+use Rattle.table_lines.proofs.LineByLine.{line-bad, line-fits, line-bytes, line-staged, line-wrong, line-next}
 use Rattle.table_lines.proofs.read_lines.Statement.{statement}
 use Rattle.table_lines.proofs.read_lines.Tie as tie
 
