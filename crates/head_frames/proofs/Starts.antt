@@ -105,10 +105,9 @@ module _ {F : List ℕ} (ks : List ℕ) {at end n b : ℕ} (i : IsNumber F at en
         module _ {st : Stage} (z : AtSymbols F st ks) (all : end ≤ then) (next-to : at ≡ st .used + 1) (inside : end ≤ length F)
             (kind : getD F (st .used) 0 ≡ 2) where
           -- The fields' bytes.
-          start-fields : slice (st .used + 1) end F ≡ n ∷ textOf u ++ q ∷ textOf v
+          start-fields : slice at end F ≡ n ∷ textOf u ++ q ∷ textOf v
           start-fields =
-              ap (λ x. slice x end F) (sym next-to)
-              ∙ start-bytes n q u v _ _ _ _ _
+              start-bytes n q u v _ _ _ _ _
               (within-inv 1 statesMost _ n _ (i .read) .2)
               (text-inv _ u _ (i₁ .read) .1)
               (below-inv n _ q _ (i₂ .read) .1)
@@ -121,11 +120,11 @@ module _ {F : List ℕ} (ks : List ℕ) {at end n b : ℕ} (i : IsNumber F at en
 
           -- The bytes are the frames of the table.
           frames-with : take end F ≡ headFrames (started ks n u q v) ++ rowFrames []
-          frames-with = frame-more F (st .used) end some inside _ _ 2 (z .frames) kind start-fields ∙ head-alone ks n u q v
+          frames-with = frame-more F (st .used) at end _ _ 2 some inside next-to (z .frames) kind start-fields ∙ head-alone ks n u q v
 
           -- They are as many as are used.
           frames-end : end ≡ length (headFrames (started ks n u q v) ++ rowFrames [])
-          frames-end = frame-long F (st .used) end some inside _ frames-with
+          frames-end = frame-long F end _ inside frames-with
 
           -- The table with no rule yet.
           start-staged : (R : List ℕ) → AtRules F R (behindStart (st .head .symbols) n q b c end) (started ks n u q v)

@@ -48,14 +48,14 @@ module _ (F R : List ℕ) (at end k : ℕ) (p : Parsed text.Stage) (f : Field) (
   pub word-stops : (o : Parsed Word) → WordRead F at end o f → (o ≡ fault k → p ≡ fault k) → Stepped F R (text.whole p) r
   word-stops o w h = stepped-wrong F R p k r (h (fault-word F at end k o f told w)) says-it
 
-module _ (F : List ℕ) (used end : ℕ) (h : used < end) (k : end ≤ length F) where
-  -- The bytes up to a frame's end are those before it, its kind, and its fields.
-  pub frame-more : (front rest : List ℕ) (kind : ℕ) → take used F ≡ front → getD F used 0 ≡ kind → slice (used + 1) end F ≡ rest
-      → take end F ≡ front ++ kind ∷ rest
-  frame-more front rest kind e f g =
-      sym (take-append-drop used (take end F))
-      ∙ ap₂ _++_ (take-take used end F (omega arith) ∙ e) (slice-byte F used end kind h k (sym f) ∙ ap (λ x. kind ∷ x) g)
+-- The bytes up to a frame's end are those before it, its kind, and its fields.
+pub frame-more : (F : List ℕ) (used at end : ℕ) (front fields : List ℕ) (kind : ℕ) → used < end → end ≤ length F → at ≡ used + 1
+    → take used F ≡ front → getD F used 0 ≡ kind → slice at end F ≡ fields → take end F ≡ front ++ kind ∷ fields
+frame-more F used at end front fields kind h k next-to e f g =
+    sym (take-append-drop used (take end F))
+    ∙ ap₂ _++_ (take-take used end F (omega arith) ∙ e)
+    (slice-byte F used end kind h k (sym f) ∙ ap (λ x. kind ∷ x) (ap (λ n. slice n end F) (sym next-to) ∙ g))
 
-  -- They are as many as the place of its end says.
-  pub frame-long : (all : List ℕ) → take end F ≡ all → end ≡ length all
-  frame-long all e = sym (length-take-le end F k) ∙ ap length e
+-- They are as many as the place of its end says.
+pub frame-long : (F : List ℕ) (end : ℕ) (all : List ℕ) → end ≤ length F → take end F ≡ all → end ≡ length all
+frame-long F end all k e = sym (length-take-le end F k) ∙ ap length e

@@ -54,11 +54,8 @@ module _ {F : List ℕ} {st : Stage} {ks : List ℕ} (d : AtSymbols F st ks) (at
         arity-read : (a ≤ arityMost) × (slice at end F ≡ a ∷ slice then end F)
         arity-read = let x = within-inv 0 arityMost (slice at end F) a (slice then end F) (i .read) in (x .1, x .2)
 
-        field-alone : slice (st .used + 1) end F ≡ a ∷ []
-        field-alone =
-            ap (λ n. slice n end F) (sym next-to)
-            ∙ arity-read .1
-            ∙ ap (λ r. a ∷ r) (slice-none F then end (omega (arith, i .inside)))
+        field-alone : slice at end F ≡ a ∷ []
+        field-alone = arity-read .1 ∙ ap (λ r. a ∷ r) (slice-none F then end (omega (arith, i .inside)))
 
         -- The frame has a byte.
         some : st .used < end
@@ -66,7 +63,7 @@ module _ {F : List ℕ} {st : Stage} {ks : List ℕ} (d : AtSymbols F st ks) (at
 
         -- The symbol's frame stands behind the frames so far.
         frames-with : take end F ≡ symbolFrames (ks ++ a ∷ [])
-        frames-with = frame-more F (st .used) end some inside _ _ 1 (d .frames) kind field-alone ∙ sym (symbols-more ks a)
+        frames-with = frame-more F (st .used) at end _ _ 1 some inside next-to (d .frames) kind field-alone ∙ sym (symbols-more ks a)
 
         -- The stage behind the symbol.
         pub symbol-next : (R : List ℕ) (st′ : Stage) → st′ .phase ≡ 0 → st′ .head .symbols ≡ st .head .symbols + 1 → st′ .used ≡ end
@@ -76,6 +73,6 @@ module _ {F : List ℕ} {st : Stage} {ks : List ℕ} (d : AtSymbols F st ks) (at
           symbols = omega (arith, d .symbols, length-append ks (a ∷ []));
           few = omega (arith, d .symbols, length-append ks (a ∷ []));
           small = most-append arityMost ks (a ∷ []) (d .small) (arity-read .0, tt);
-          used = used ∙ frame-long F (st .used) end some inside _ frames-with;
+          used = used ∙ frame-long F end _ inside frames-with;
           frames = ap (λ n. take n F) used ∙ frames-with;
         }) refl

@@ -143,7 +143,7 @@ module _ {F R : List ℕ} {st : Stage} {M : Table} (a : AtRules F R st M) (at en
               -- The row's frame stands behind the frames so far.
               frames-with : take end F ≡ headFrames (text.withRow M row) ++ rowFrames (M .rows ++ row ∷ [])
               frames-with =
-                  frame-more F (st .used) end (omega arith) inside _ (slice at end F) 3 (a .frames) kind (ap (λ k. slice k end F) (sym next-to))
+                  frame-more F (st .used) at end _ _ 3 (omega arith) inside next-to (a .frames) kind refl
                   ∙ ap (λ l. headFrames M ++ rowFrames (M .rows) ++ l)
                   (row-bytes (st .head .states) (st .head .symbols) n _ q _ f _ (r .rule) _ (i .read) (j .read) (r .read) nothing-left)
                   ∙ sym (rows-frames M row)
@@ -158,7 +158,7 @@ module _ {F R : List ℕ} {st : Stage} {M : Table} (a : AtRules F R st M) (at en
               rule-next R′ y w l o e = stepped-ready F _ _ _ then end taken _ o (r .inside) whole (record {
                 phase = refl;
                 numbers = numbers-more st M row end (a .numbers) has-room symbol-small later;
-                used = frame-long F (st .used) end (omega arith) inside _ frames-with;
+                used = frame-long F end _ inside frames-with;
                 frames = frames-with;
                 rules = noted-more R R′ M row (st .head .rules) from y x (a .rules) w rules-of place-is l (r .entry);
               }) e

@@ -117,14 +117,10 @@ pub fn rule_frame(st: Stage, frames: &[u8], rules: &mut [u64], at: usize, end: u
         return Next::Wrong { number: 4 };
     }
     let first = fields::below(frames, at, end, states);
-    let Field::Got {
-        value: q,
-        next: second,
-    } = first
-    else {
+    let Field::Got { value: q, next } = first else {
         return head_frames::fault(first);
     };
-    let sym = fields::below(frames, second, end, old.symbols);
+    let sym = fields::below(frames, next, end, old.symbols);
     let Field::Got {
         value: f,
         next: from,
