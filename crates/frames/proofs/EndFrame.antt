@@ -1,21 +1,21 @@
 -- Frame 04 at the stage of rules.
-use mathlib.Core.Path.{_≡_, refl, sym, ap, _∙_}
-use mathlib.Core.List.{List, [], _∷_, _++_}
+use mathlib.Core.Path.{_≡_, refl}
+use mathlib.Core.List.{List, []}
 use Prim.Native.Nat.{ℕ, _+_, _<_, _≤_}
 use native.Mathlib.Omega.{arith}
 use lib.ListN.{length, getD, take}
 use lib.Seq.{slice}
 use Rattle.machine.specs.Machine.{Table}
 use Rattle.text.specs.Frames as text
-use Rattle.layout.specs.Layout.{rowFrames, headFrames, framesOf}
+use Rattle.layout.specs.Layout.{framesOf}
 use Rattle.fields.proofs.Slices.{slice-none}
-use Rattle.frames.specs.Staged.{AtRules, Stepped}
-use Rattle.frames.specs.declared.Stage.{Stage}
-use Rattle.frames.specs.declared.Next.the-variants as next
-use Rattle.frames.proofs.StepFrames.{stepped-left, stepped-ready, frame-more, frame-long}
+use Rattle.head_frames.specs.Staged.{AtRules, Stepped}
+use Rattle.head_frames.specs.declared.Stage.{Stage}
+use Rattle.head_frames.specs.declared.Next.the-variants as next
+use Rattle.head_frames.proofs.StepFrames.{stepped-left, stepped-ready, frame-more, frame-long}
 
 -- The stage behind the end.
-abbrev pub behindEnd : Stage → ℕ → Stage
+abbrev behindEnd : Stage → ℕ → Stage
 behindEnd st end = record { phase = 2; head = st .head; last = st .last; used = end }
 
 module _ {F R : List ℕ} {st : Stage} {M : Table} (a : AtRules F R st M) (at end : ℕ) where
@@ -31,16 +31,14 @@ module _ {F R : List ℕ} {st : Stage} {M : Table} (a : AtRules F R st M) (at en
     -- The end frame stands behind the frames so far.
     frames-all : take end F ≡ framesOf M
     unfolding framesOf
-    frames-all =
-        frame-more F (st .used) end (omega arith) inside (headFrames M ++ rowFrames (M .rows)) (slice at end F) 4 (a .frames) kind (ap (λ k. slice k end F) (sym next-to))
-        ∙ ap (λ l. headFrames M ++ rowFrames (M .rows) ++ 4 ∷ l) nothing-left
+    frames-all = frame-more F (st .used) at end _ _ 4 (omega arith) inside next-to (a .frames) kind nothing-left
 
     -- The stage behind the end.
     pub end-next : Stepped F R (text.whole (text.endFrame M (slice at end F))) (next.Ready (behindEnd st end))
     end-next = stepped-ready F R _ _ at end refl _ _ start whole (record {
       phase = refl;
       head = a .numbers .head;
-      used = frame-long F (st .used) end (omega arith) inside _ frames-all;
+      used = frame-long F end _ inside frames-all;
       frames = frames-all;
       rules = a .rules;
     }) refl

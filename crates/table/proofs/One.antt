@@ -1,5 +1,5 @@
 -- One text and one lent room have one answer: two answers that meet the contract of opening are the same, with the same bytes and numbers.
-use mathlib.Core.Path.{_≡_, refl, sym, ap, ap₂, _∙_}
+use mathlib.Core.Path.{_≡_, refl, sym, ap, _∙_}
 use mathlib.Core.List.{List}
 use Prim.Native.Nat.{ℕ, zero, suc, _+_, _*_, _-_, _/_, _%_, _<_, _≤_}
 use native.Mathlib.Omega.{arith}
@@ -9,7 +9,8 @@ use lib.Seq.{ext-getD}
 use Rattle.words.specs.Reply.{Reply, given, refusal}
 use Rattle.machine.specs.Machine.{Table}
 use Rattle.layout.specs.Layout.{HeadIn, Opened}
-use Rattle.table.specs.Opening.{Opens, Beyond, Unchanged}
+use Rattle.table.specs.Opening.{Opens, Unchanged}
+use Rattle.table_numbers.specs.Storing.{Beyond}
 use Rattle.table.specs.declared.Opening.{Opening}
 use Rattle.table.specs.declared.Opening.the-variants as opening
 

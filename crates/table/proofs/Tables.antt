@@ -9,13 +9,14 @@ use Rattle.machine.specs.Machine.{Table}
 use Rattle.text.specs.Reading.{readTable}
 use Rattle.text.proofs.Back.{write-read}
 use Rattle.layout.specs.Layout.{framesSize, numbersSize, framesOf, Opened}
-use Rattle.frames.specs.declared.Head.{Head}
+use Rattle.head_frames.specs.declared.Head.{Head}
 use Rattle.layout.proofs.Fit.{length-text, frames-fit}
-use Rattle.frames.specs.Staged.{headOf}
-use Rattle.table.specs.Opening.{Decoded, Reads, Opens, Unchanged}
-use Rattle.table.specs.Storing.{Rules, Filled}
-use Rattle.table.specs.declared.Decoding.{Decoding}
-use Rattle.table.specs.declared.Decoding.the-variants as decoding
+use Rattle.head_frames.specs.Staged.{headOf}
+use Rattle.table_lines.specs.Reads.{Decoded, Reads}
+use Rattle.table.specs.Opening.{Opens, Unchanged}
+use Rattle.table_numbers.specs.Storing.{RulesNoted, Filled}
+use Rattle.table_lines.specs.declared.Decoding.{Decoding}
+use Rattle.table_lines.specs.declared.Decoding.the-variants as decoding
 use Rattle.table.specs.declared.Opening.the-variants as opening
 use Rattle.table.proofs.Copies.{copy-long}
 
@@ -61,7 +62,7 @@ module _ {T F R : List ℕ} {h : Head} (t : IsTable T F R h) where
     frames-copied : (F₀ F′ : List ℕ) → F′ ≡ take n F ++ drop n F₀ → F′ ≡ framesOf (t .table) ++ drop (length (framesOf (t .table))) F₀
     frames-copied F₀ F′ e = e ∙ ap (λ k. take k F ++ drop k F₀) frames-long ∙ ap (λ l. l ++ drop (length (framesOf (t .table))) F₀) (t .decoded .frames)
 
-  module _ {I I′ : List ℕ} (long : length I ≡ numbersSize) (fill : (M : Table) → h ≡ headOf M → Rules R (h .rules) M → Filled I I′ M) where
+  module _ {I I′ : List ℕ} (long : length I ≡ numbersSize) (fill : (M : Table) → h ≡ headOf M → RulesNoted R (h .rules) M → Filled I I′ M) where
     -- The numbers are filled with the table's.
     filled-table : Filled I I′ (t .table)
     filled-table =

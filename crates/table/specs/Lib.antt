@@ -1,3 +1,2 @@
--- The reader of table texts.
+-- Opening a table text.
 pub mod Opening
-pub mod Storing

@@ -1,2 +1,0 @@
--- Frames: what each makes of the table read so far.
-pub mod Staged

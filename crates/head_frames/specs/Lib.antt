@@ -1,0 +1,2 @@
+-- The stages of reading a table text.
+pub mod Staged

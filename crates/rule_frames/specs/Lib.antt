@@ -1,0 +1,2 @@
+-- The frame of a rule.
+pub mod Kept

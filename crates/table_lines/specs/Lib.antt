@@ -1,0 +1,2 @@
+-- What the lines of a table text come to.
+pub mod Reads

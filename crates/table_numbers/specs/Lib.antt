@@ -1,0 +1,2 @@
+-- The numbers of an opened table.
+pub mod Storing
