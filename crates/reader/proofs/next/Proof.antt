@@ -42,7 +42,7 @@ use denote.Triple.Table.{entered, cited}
 use denote.Triple.Walked.{says, Stays, stay-none, gave-slice, walkOf, goes-none, goes-gave-slice, Walks, ends-at, walked, walk-meets}
 use denote.Exit.{yes}
 use denote.Triple.Clauses.{ensured, lasts}
-use Rattle.lines.specs.Scan.{scan, Taken}
+use Rattle.lines.specs.Scan.{scan, LineTaken}
 use Rattle.lines.specs.declared.Line.{Line}
 use Rattle.lines.proofs.Line as S
 use Rattle.lines.proofs.Line.Laws as S′
@@ -121,7 +121,7 @@ module _ {M : Type 1} (𝓤 : URA M) (H : Heap 𝓤) (A : Atoms 𝓤) (W : Given
 
   -- what is known of the line found, and of the last bytes of the frames
   abbrev found : Line → List ℕ → Type 0
-  found l zs = Taken (now (d .text)) (scan (from-place (d .at) (now (d .text)))) (d .at) n ys zs l
+  found l zs = LineTaken (now (d .text)) (scan (from-place (d .at) (now (d .text)))) (d .at) n ys zs l
 
   module _ (in-text : (d .at ≤ length (now (d .text))) × (length (now (d .text)) ≤ 32768)) (in-frames : (2 * n ≤ d .at) × (16384 ≤ length ys)) where
     asked : ent 𝓤 (onEntry 𝓤 H A take.signature κs (q, (q′, tt)) given-to passed) (TakeLine 𝓤 H A mem run .pre to)

@@ -38,7 +38,7 @@ use denote.Triple.Table.{entered, cited}
 use denote.Triple.Walked.{says, Stays, stay-none, stay-none-slice, gave-slice, walkOf, goes-none, goes-none-slice, goes-gave-slice, Walks, ends-at, walked, walk-meets}
 use denote.Exit.{yes}
 use denote.Triple.Clauses.{ensured, lasts}
-use Rattle.lines.specs.Scan.{scan, Taken}
+use Rattle.lines.specs.Scan.{scan, LineTaken}
 use Rattle.lines.specs.declared.Line.{Line}
 use Rattle.lines.proofs.Line as S
 use Rattle.lines.proofs.Line.Laws as S′
@@ -140,7 +140,7 @@ module _ {M : Type 1} (𝓤 : URA M) (H : Heap 𝓤) (A : Atoms 𝓤) (W : Given
 
   -- what is known of the line found, and of the last bytes of the frames
   abbrev found : Line → List ℕ → Type 0
-  found l zs = Taken (now t) (scan (from-place k (now t))) k n ys zs l
+  found l zs = LineTaken (now t) (scan (from-place k (now t))) k n ys zs l
 
   module _ (in-text : (k ≤ length (now t)) × (length (now t) ≤ 32768)) (in-frames : (2 * n ≤ k) × (16384 ≤ length ys)) where
     asked-next : (u : Val) → ent 𝓤 (onEntry 𝓤 H A next.signature κs (q, (q′, tt)) (made, (x, (n, tt))) (u ∷ [], (s ∷ [], (vint w64 n ∷ [], tt)))) (Next 𝓤 H A mem run .pre (to-next u))

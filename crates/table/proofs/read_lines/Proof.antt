@@ -4,7 +4,7 @@ use Prim.Native.Nat.{_-_}
 use native.Mathlib.Omega.{arith}
 use borrow.Author.Needs.{needs}
 use lib.ListN.{length, drop}
-use Rattle.lines.specs.Scan.{scan, bad, Kept}
+use Rattle.lines.specs.Scan.{scan, bad, FrontKept}
 use Rattle.lines.proofs.Laws.{IsWhole, whole-taken, bad-taken}
 use Rattle.table.proofs.Stages as stage
 use Rattle.table.proofs.Ends as law
@@ -32,7 +32,7 @@ next-line-requires c κs =
 -- The line is bad, and the bytes that are used are as they were.
 spoiled : (k : tie.After-enum-told Inv-loop μ-loop) →
     let l = k .before .before .before .before .before .before .before .loop in
-    (scan (drop (l .at) (k .before .before .before .before .before .before .before .before .before .before .before .before .args .text .now)) ≡ bad) × Kept (l .st .used) (l .bytes) (k .before .before .before .before .next-line .last .1 .1 .0)
+    (scan (drop (l .at) (k .before .before .before .before .before .before .before .before .before .before .before .before .args .text .now)) ≡ bad) × FrontKept (l .st .used) (l .bytes) (k .before .before .before .before .next-line .last .1 .1 .0)
 spoiled k =
     let l = k .before .before .before .before .before .before .before .loop in
     let t = k .before .before .before .before .next-line in
