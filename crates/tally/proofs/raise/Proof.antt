@@ -3,13 +3,13 @@ use mathlib.Core.Path.{sym, ap}
 use lib.ListN.{set}
 use lib.Seq.{set-out}
 use borrow.Author.Needs.{needs}
-use Rattle.answers.proofs.counts.raise.Statement.{statement}
-use Rattle.answers.proofs.counts.raise.Tie as tie
+use Rattle.tally.proofs.raise.Statement.{statement}
+use Rattle.tally.proofs.raise.Tie as tie
 
 returns : tie.Need-returns
 returns c =
-    let c4 = c .before .before .before .before in
-    ap (set (c4 .args .counts .now) (c4 .args .at)) (c .plus .ensures)
+    let a = c .before .before .before .before .args in
+    ap (set (a .counts .now) (a .at)) (c .plus .ensures)
 
 returns-2 : tie.Need-returns-2
 returns-2 c = sym (set-out (c .before .before .args .counts .now) (c .before .before .args .at) _ (search needs))
