@@ -26,7 +26,7 @@ use Rattle.why_no_word.specs.declared.Letters.{Letters}
 use Rattle.table.specs.Opening.{Opens}
 use Rattle.table.specs.declared.Opening.{Opening}
 use Rattle.table.specs.declared.Opening.the-variants as opening
-use Rattle.hexline.specs.SoFar.{Held, Whole, Kept}
+use Rattle.hexline.specs.SoFar.{LineHeld, WholeBytes, TreeBytes}
 use Rattle.hexline.specs.declared.SoFar.{SoFar}
 use Rattle.hexline.proofs.Laws.{held-bytes}
 use Rattle.output.specs.Queue.{Queued}
@@ -53,7 +53,7 @@ refusal-responds (refusal x) R R′ O O′ f e u r i h q =
     subst (λ (y : No). Responds (refusal y) O u O′ r) (refusal-injective _ _ (sym (ap said i) ∙ h .answer)) q
 
 -- Bytes that are no line of hexadecimal.
-pub strange-answered : (cs T O O′ : List ℕ) (t : Reply Table) (l : SoFar) (b : Bool) (room u k : ℕ) → Held cs T l → Told (Whole cs T (l .bytes)) b → b ≡ false
+pub strange-answered : (cs T O O′ : List ℕ) (t : Reply Table) (l : SoFar) (b : Bool) (room u k : ℕ) → LineHeld cs T l → Told (WholeBytes cs T (l .bytes)) b → b ≡ false
     → Queued notHex O u O′ k → Answered t (bytesOf cs) room O u O′ (record { used = k; counted = 20 })
 strange-answered cs T O O′ t l b room u k h told e q = go (bytesOf cs) refl
   where
@@ -71,7 +71,7 @@ six M xs room h = rw (lt-ltb treeMost (length xs) h) (go (eqb (length xs) 0))
     go false = refl
 
 -- The tree's bytes that have a place get the answer of all of them.
-kept-word : (M : Table) (bs T : List ℕ) (n room : ℕ) → Kept bs T n → treeMost < length T → wordInto M (take n T) room ≡ wordInto M bs room
+kept-word : (M : Table) (bs T : List ℕ) (n room : ℕ) → TreeBytes bs T n → treeMost < length T → wordInto M (take n T) room ≡ wordInto M bs room
 kept-word M bs T n room k h = go (ltb (length T) (length bs)) refl
   where
     go : (b : Bool) → ltb (length T) (length bs) ≡ b → wordInto M (take n T) room ≡ wordInto M bs room
@@ -85,20 +85,20 @@ kept-word M bs T n room k h = go (ltb (length T) (length bs)) refl
 
 -- A line of hexadecimal under an opened table.
 pub table-answered : (cs T F I O O′ v : List ℕ) (t : Reply Table) (o : Opening) (b : Bool) (m room u : ℕ) (r : Said) → o ≡ opening.Table
-    → Opens F I t o → Told (Whole cs T m) b → b ≡ true → treeMost < length T → v ≡ take m T
+    → Opens F I t o → Told (WholeBytes cs T m) b → b ≡ true → treeMost < length T → v ≡ take m T
     → ((M : Table) → Opened F I M → Responds (wordInto M v room) O u O′ r) → Answered t (bytesOf cs) room O u O′ r
 table-answered cs T F I O O′ v t o b m room u r i s told e h d f = go t (subst (Opens F I t) i s) (told .if-true e)
   where
-    go : (t : Reply Table) → Opens F I t opening.Table → Whole cs T m → Answered t (bytesOf cs) room O u O′ r
+    go : (t : Reply Table) → Opens F I t opening.Table → WholeBytes cs T m → Answered t (bytesOf cs) room O u O′ r
     go (given M) p w =
         rw (w .1) (subst (λ (a : Reply Word). Responds a O u O′ r) (ap (λ (x : List ℕ). wordInto M x room) d ∙ kept-word M (w .0) T m room (w .2) h) (f M p))
     go (refusal x) p w = absurd p
 
 -- A line of hexadecimal under a table that was refused.
 pub refused-answered : (cs T F I O O′ : List ℕ) (t : Reply Table) (o : Opening) (e : No) (b : Bool) (m room u : ℕ) (r : Said) → o ≡ opening.Refused e
-    → Opens F I t o → Told (Whole cs T m) b → b ≡ true → Responds (refusal e) O u O′ r → Answered t (bytesOf cs) room O u O′ r
+    → Opens F I t o → Told (WholeBytes cs T m) b → b ≡ true → Responds (refusal e) O u O′ r → Answered t (bytesOf cs) room O u O′ r
 refused-answered cs T F I O O′ t o e b m room u r i s told y q = go t (subst (Opens F I t) i s) (told .if-true y)
   where
-    go : (t : Reply Table) → Opens F I t (opening.Refused e) → Whole cs T m → Answered t (bytesOf cs) room O u O′ r
+    go : (t : Reply Table) → Opens F I t (opening.Refused e) → WholeBytes cs T m → Answered t (bytesOf cs) room O u O′ r
     go (given M) p w = absurd p
     go (refusal x) d w = rw (w .1) (subst (λ (y : No). Responds (refusal y) O u O′ r) d q)

@@ -16,13 +16,13 @@ use Rattle.text.specs.Lines.{Lines, behind, line, push, linesOf, bytesOf}
 use Rattle.trees.specs.Shape.{treeMost}
 use Rattle.table.specs.Opening.{Opens}
 use Rattle.table.specs.declared.Opening.{Opening}
-use Rattle.hexline.specs.SoFar.{Held, Taken}
+use Rattle.hexline.specs.SoFar.{LineHeld, UpToFeed}
 use Rattle.hexline.specs.declared.SoFar.{SoFar}
 use Rattle.hexline.proofs.Laws.{taken-inside}
 use Rattle.output.specs.Queue.{Queued}
 use Rattle.output.proofs.Queues.{queued-none, queued-as, queued-then}
 use Rattle.respond.specs.Response.{lineAnswer, Answered, Responds, Strange}
-use Rattle.respond.specs.Piece.{NoFeed, answersTo, lastOf, Left}
+use Rattle.respond.specs.Piece.{FeedFree, answersTo, lastOf, LinesAnswered}
 use Rattle.respond.specs.declared.Said.{Said}
 
 -- What was put for a line is its answer.
@@ -61,7 +61,7 @@ lines-append (x ∷ xs) ys = go (eqb x 0x0a) (lines-append xs ys)
     go false e = ap (push x) e ∙ push-joined x (linesOf xs) (linesOf ys)
 
 -- Characters without a line feed are no whole line.
-lines-none : (ys : List ℕ) → NoFeed ys → linesOf ys ≡ behind ys
+lines-none : (ys : List ℕ) → FeedFree ys → linesOf ys ≡ behind ys
 unfolding linesOf
 lines-none [] h = refl
 lines-none (y ∷ ys) h = go (eqb y 0x0a) refl (lines-none ys (λ k i e. h (suc k) (omega arith) e))
@@ -100,37 +100,37 @@ module _ (t : Reply Table) (room : ℕ) where
       (ap (λ (x : List ℕ). lineAnswer t room l ++ x) (i .0) ∙ sym (append-assoc (lineAnswer t room l) (answersTo t room ls) (lineAnswer t room (lastOf ls))), i .1)
 
   -- More characters of the last line came.
-  left-fed : (xs ys O O′ T T′ : List ℕ) (u r : ℕ) (l l′ : SoFar) → Left t room (linesOf xs) O u O′ r T l → NoFeed ys
-      → (Held (lastOf (linesOf xs)) T l → Held (lastOf (linesOf xs) ++ ys) T′ l′) → Left t room (linesOf (xs ++ ys)) O u O′ r T′ l′
+  left-fed : (xs ys O O′ T T′ : List ℕ) (u r : ℕ) (l l′ : SoFar) → LinesAnswered t room (linesOf xs) O u O′ r T l → FeedFree ys
+      → (LineHeld (lastOf (linesOf xs)) T l → LineHeld (lastOf (linesOf xs) ++ ys) T′ l′) → LinesAnswered t room (linesOf (xs ++ ys)) O u O′ r T′ l′
   left-fed xs ys O O′ T T′ u r l l′ a h f =
       let j = joined-behind (linesOf xs) ys in
       let e : linesOf (xs ++ ys) ≡ joined (linesOf xs) (behind ys) = lines-append xs ys ∙ ap (joined (linesOf xs)) (lines-none ys h) in
       record {
         answers = queued-as (sym (ap (answersTo t room) e ∙ j .0)) (a .answers);
-        held = subst (λ (x : List ℕ). Held x T′ l′) (sym (ap lastOf e ∙ j .1)) (f (a .held));
+        held = subst (λ (x : List ℕ). LineHeld x T′ l′) (sym (ap lastOf e ∙ j .1)) (f (a .held));
       }
 
   -- The line feed of the last line came, and the line was answered.
-  left-answered : (xs O O₁ O₂ T T′ : List ℕ) (u m r : ℕ) (l l′ : SoFar) → Left t room (linesOf xs) O u O₁ m T l
-      → (Held (lastOf (linesOf xs)) T l → Queued (lineAnswer t room (lastOf (linesOf xs))) O₁ m O₂ r) → Held [] T′ l′
-      → Left t room (linesOf (xs ++ 0x0a ∷ [])) O u O₂ r T′ l′
+  left-answered : (xs O O₁ O₂ T T′ : List ℕ) (u m r : ℕ) (l l′ : SoFar) → LinesAnswered t room (linesOf xs) O u O₁ m T l
+      → (LineHeld (lastOf (linesOf xs)) T l → Queued (lineAnswer t room (lastOf (linesOf xs))) O₁ m O₂ r) → LineHeld [] T′ l′
+      → LinesAnswered t room (linesOf (xs ++ 0x0a ∷ [])) O u O₂ r T′ l′
   unfolding linesOf
   left-answered xs O O₁ O₂ T T′ u m r l l′ a f h =
       let j = joined-feed (linesOf xs) in
       let e : linesOf (xs ++ 0x0a ∷ []) ≡ joined (linesOf xs) (line [] (behind [])) = lines-append xs (0x0a ∷ []) in
       record {
         answers = queued-as (sym (ap (answersTo t room) e ∙ j .0)) (queued-then (a .answers) (f (a .held)));
-        held = subst (λ (x : List ℕ). Held x T′ l′) (sym (ap lastOf e ∙ j .1)) h;
+        held = subst (λ (x : List ℕ). LineHeld x T′ l′) (sym (ap lastOf e ∙ j .1)) h;
       }
 
   -- Before anything came.
-  left-none : (cs piece O T : List ℕ) (l : SoFar) → NoFeed cs → Held cs T l → Left t room (linesOf (cs ++ take 0 piece)) O 0 O 0 T l
+  left-none : (cs piece O T : List ℕ) (l : SoFar) → FeedFree cs → LineHeld cs T l → LinesAnswered t room (linesOf (cs ++ take 0 piece)) O 0 O 0 T l
   unfolding answersTo lastOf
   left-none cs piece O T l n h =
       let e : linesOf (cs ++ take 0 piece) ≡ behind cs = ap linesOf (append-nil cs) ∙ lines-none cs n in
       record {
         answers = queued-as (sym (ap (answersTo t room) e)) (queued-none O 0);
-        held = subst (λ (x : List ℕ). Held x T l) (sym (ap lastOf e)) h;
+        held = subst (λ (x : List ℕ). LineHeld x T l) (sym (ap lastOf e)) h;
       }
 
 module _ (piece : List ℕ) where
@@ -138,61 +138,61 @@ module _ (piece : List ℕ) where
   part : (at : ℕ) → take (length piece - at) (drop at piece) ≡ drop at piece
   part at = take-all (length piece - at) (drop at piece) (omega (arith, length-drop at piece))
 
-  taken-plain : (at n : ℕ) → Taken (take (length piece - at) (drop at piece)) n → NoFeed (take n (drop at piece))
+  taken-plain : (at n : ℕ) → UpToFeed (take (length piece - at) (drop at piece)) n → FeedFree (take n (drop at piece))
   taken-plain at n k j h e =
       let g : j < n = omega (arith, length-take n (drop at piece)) in
       k .before j g (ap (λ (x : List ℕ). getD x j 0) (part at) ∙ sym (getD-take n (drop at piece) j 0 g) ∙ e)
 
   -- Where the characters stop before the piece's end, a line feed stands.
-  pub taken-feed : (at n : ℕ) → Taken (take (length piece - at) (drop at piece)) n → at + n < length piece → getD piece (at + n) 0 ≡ 0x0a
+  pub taken-feed : (at n : ℕ) → UpToFeed (take (length piece - at) (drop at piece)) n → at + n < length piece → getD piece (at + n) 0 ≡ 0x0a
   taken-feed at n k h =
       let g : n < length (take (length piece - at) (drop at piece)) = omega (arith, length-take (length piece - at) (drop at piece), length-drop at piece) in
       sym (getD-drop at piece n 0) ∙ sym (ap (λ (x : List ℕ). getD x n 0) (part at)) ∙ k .end g
 
 -- The loop over a piece: the answers to the lines that end before `at` were put, whatever characters came before the piece.
-pub record Going (F I T₀ : List ℕ) (l₀ : SoFar) (o : Opening) (room : ℕ) (piece O₀ : List ℕ) (at used : ℕ) (O T : List ℕ) (l : SoFar) : Type 0 where
+pub record PieceSoFar (F I T₀ : List ℕ) (l₀ : SoFar) (o : Opening) (room : ℕ) (piece O₀ : List ℕ) (at used : ℕ) (O T : List ℕ) (l : SoFar) : Type 0 where
   pub inside : at ≤ length piece
   pub long : length T ≡ length T₀
-  pub left : (cs : List ℕ) (t : Reply Table) → NoFeed cs → Held cs T₀ l₀ → treeMost < length T₀ → Opens F I t o
-      → Left t room (linesOf (cs ++ take at piece)) O₀ 0 O used T l
+  pub left : (cs : List ℕ) (t : Reply Table) → FeedFree cs → LineHeld cs T₀ l₀ → treeMost < length T₀ → Opens F I t o
+      → LinesAnswered t room (linesOf (cs ++ take at piece)) O₀ 0 O used T l
 
 module _ (F I T₀ : List ℕ) (l₀ : SoFar) (o : Opening) (room : ℕ) (piece O₀ : List ℕ) where
-  pub going-none : Going F I T₀ l₀ o room piece O₀ 0 0 O₀ T₀ l₀
+  pub going-none : PieceSoFar F I T₀ l₀ o room piece O₀ 0 0 O₀ T₀ l₀
   going-none = record { inside = omega arith; long = refl; left = λ cs t n h m s. left-none t room cs piece O₀ T₀ l₀ n h }
 
   -- Characters up to a line feed or the piece's end.
-  pub going-fed : (at used n : ℕ) (O T T′ : List ℕ) (l l′ : SoFar) → Going F I T₀ l₀ o room piece O₀ at used O T l
-      → Taken (take (length piece - at) (drop at piece)) n
-      → ((cs : List ℕ) → Held cs T l → Held (cs ++ take n (take (length piece - at) (drop at piece))) T′ l′) → length T′ ≡ length T
-      → Going F I T₀ l₀ o room piece O₀ (at + n) used O T′ l′
+  pub going-fed : (at used n : ℕ) (O T T′ : List ℕ) (l l′ : SoFar) → PieceSoFar F I T₀ l₀ o room piece O₀ at used O T l
+      → UpToFeed (take (length piece - at) (drop at piece)) n
+      → ((cs : List ℕ) → LineHeld cs T l → LineHeld (cs ++ take n (take (length piece - at) (drop at piece))) T′ l′) → length T′ ≡ length T
+      → PieceSoFar F I T₀ l₀ o room piece O₀ (at + n) used O T′ l′
   going-fed at used n O T T′ l l′ g k f e =
       record {
         inside = taken-inside piece at n k (g .inside);
         long = e ∙ g .long;
         left = λ cs t i h m s.
-            subst (λ (x : List ℕ). Left t room (linesOf x) O₀ 0 O used T′ l′) (append-assoc cs (take at piece) (take n (drop at piece)) ∙ ap (λ (x : List ℕ). cs ++ x) (sym (take-add at n piece)))
+            subst (λ (x : List ℕ). LinesAnswered t room (linesOf x) O₀ 0 O used T′ l′) (append-assoc cs (take at piece) (take n (drop at piece)) ∙ ap (λ (x : List ℕ). cs ++ x) (sym (take-add at n piece)))
             (left-fed t room (cs ++ take at piece) (take n (drop at piece)) O₀ O T T′ 0 used l l′ (g .left cs t i h m s) (taken-plain piece at n k)
-            (λ d. subst (λ (x : List ℕ). Held (lastOf (linesOf (cs ++ take at piece)) ++ take n x) T′ l′) (part piece at) (f (lastOf (linesOf (cs ++ take at piece))) d)));
+            (λ d. subst (λ (x : List ℕ). LineHeld (lastOf (linesOf (cs ++ take at piece)) ++ take n x) T′ l′) (part piece at) (f (lastOf (linesOf (cs ++ take at piece))) d)));
       }
 
   -- A line feed, whose line was answered.
-  pub going-answered : (at used r room′ : ℕ) (O O′ T : List ℕ) (l l′ : SoFar) → Going F I T₀ l₀ o room piece O₀ at used O T l → room′ ≡ room
-      → ((cs : List ℕ) (t : Reply Table) → Held cs T l → treeMost < length T → Opens F I t o → Queued (lineAnswer t room′ cs) O used O′ r)
-      → ((tree : List ℕ) → Held [] tree l′) → at < length piece → getD piece at 0 ≡ 0x0a → Going F I T₀ l₀ o room piece O₀ (at + 1) r O′ T l′
+  pub going-answered : (at used r room′ : ℕ) (O O′ T : List ℕ) (l l′ : SoFar) → PieceSoFar F I T₀ l₀ o room piece O₀ at used O T l → room′ ≡ room
+      → ((cs : List ℕ) (t : Reply Table) → LineHeld cs T l → treeMost < length T → Opens F I t o → Queued (lineAnswer t room′ cs) O used O′ r)
+      → ((tree : List ℕ) → LineHeld [] tree l′) → at < length piece → getD piece at 0 ≡ 0x0a → PieceSoFar F I T₀ l₀ o room piece O₀ (at + 1) r O′ T l′
   going-answered at used r room′ O O′ T l l′ g q f h i e =
       record {
         inside = omega arith;
         long = g .long;
         left = λ cs t j d m s.
             let z : take (at + 1) piece ≡ take at piece ++ 0x0a ∷ [] = ap (λ (k : ℕ). take k piece) (add-one at) ∙ take-suc piece at 0 i ∙ ap (λ (k : ℕ). take at piece ++ k ∷ []) e in
-            subst (λ (x : List ℕ). Left t room (linesOf x) O₀ 0 O′ r T l′) (append-assoc cs (take at piece) (0x0a ∷ []) ∙ ap (λ (x : List ℕ). cs ++ x) (sym z))
+            subst (λ (x : List ℕ). LinesAnswered t room (linesOf x) O₀ 0 O′ r T l′) (append-assoc cs (take at piece) (0x0a ∷ []) ∙ ap (λ (x : List ℕ). cs ++ x) (sym z))
             (left-answered t room (cs ++ take at piece) O₀ O O′ T T 0 used r l l′ (g .left cs t j d m s)
             (λ k. subst (λ (n : ℕ). Queued (lineAnswer t n (lastOf (linesOf (cs ++ take at piece)))) O used O′ r) q
             (f (lastOf (linesOf (cs ++ take at piece))) t k (subst (λ (n : ℕ). treeMost < n) (sym (g .long)) m) s)) (h T));
       }
 
   -- The whole piece.
-  pub going-all : (at used : ℕ) (O T : List ℕ) (l : SoFar) → Going F I T₀ l₀ o room piece O₀ at used O T l → length piece ≤ at
-      → (cs : List ℕ) (t : Reply Table) → NoFeed cs → Held cs T₀ l₀ → treeMost < length T₀ → Opens F I t o → Left t room (linesOf (cs ++ piece)) O₀ 0 O used T l
+  pub going-all : (at used : ℕ) (O T : List ℕ) (l : SoFar) → PieceSoFar F I T₀ l₀ o room piece O₀ at used O T l → length piece ≤ at
+      → (cs : List ℕ) (t : Reply Table) → FeedFree cs → LineHeld cs T₀ l₀ → treeMost < length T₀ → Opens F I t o → LinesAnswered t room (linesOf (cs ++ piece)) O₀ 0 O used T l
   going-all at used O T l g h cs t n d m s =
-      subst (λ (x : List ℕ). Left t room (linesOf (cs ++ x)) O₀ 0 O used T l) (take-all at piece h) (g .left cs t n d m s)
+      subst (λ (x : List ℕ). LinesAnswered t room (linesOf (cs ++ x)) O₀ 0 O used T l) (take-all at piece h) (g .left cs t n d m s)

@@ -6,14 +6,14 @@ use lib.ListN.{length, getD}
 use Rattle.words.specs.Reply.{Reply}
 use Rattle.machine.specs.Machine.{Table}
 use Rattle.text.specs.Lines.{Lines, behind, line}
-use Rattle.hexline.specs.SoFar.{Held}
+use Rattle.hexline.specs.SoFar.{LineHeld}
 use Rattle.hexline.specs.declared.SoFar.{SoFar}
 use Rattle.output.specs.Queue.{Queued}
 use Rattle.respond.specs.Response.{lineAnswer}
 
 -- No line feed is among the characters.
-abbrev pub NoFeed : List ℕ → Type 0
-NoFeed cs = (k : ℕ) → k < length cs → getD cs k 0 ≡ 0x0a → ⊥
+abbrev pub FeedFree : List ℕ → Type 0
+FeedFree cs = (k : ℕ) → k < length cs → getD cs k 0 ≡ 0x0a → ⊥
 
 -- The answers to all whole lines, one after the other.
 unfoldable pub answersTo : Reply Table → ℕ → Lines → List ℕ
@@ -26,6 +26,6 @@ lastOf (behind l) = l
 lastOf (line l ls) = lastOf ls
 
 -- The answers to all whole lines were put, and the line so far tells of the characters behind the last line feed.
-pub record Left (t : Reply Table) (room : ℕ) (ls : Lines) (O : List ℕ) (used : ℕ) (O′ : List ℕ) (r : ℕ) (tree : List ℕ) (l : SoFar) : Type 0 where
+pub record LinesAnswered (t : Reply Table) (room : ℕ) (ls : Lines) (O : List ℕ) (used : ℕ) (O′ : List ℕ) (r : ℕ) (tree : List ℕ) (l : SoFar) : Type 0 where
   pub answers : Queued (answersTo t room ls) O used O′ r
-  pub held : Held (lastOf ls) tree l
+  pub held : LineHeld (lastOf ls) tree l

@@ -19,7 +19,7 @@ ghost use Rattle.trees.specs.Shape.{treeMost};
 ghost use Rattle.promises.specs.Word.{wordInto};
 ghost use Rattle.layout.specs.Layout.{Meant};
 ghost use Rattle.table.specs.Opening.{Opens};
-ghost use Rattle.hexline.specs.SoFar.{Held};
+ghost use Rattle.hexline.specs.SoFar.{LineHeld};
 ghost use Rattle.respond.specs.Response.{Responds, Answered};
 
 // Where an answer is counted: a word at 0, a refusal at its number, a line that is not hexadecimal
@@ -76,7 +76,7 @@ pub fn to_line(
     out: &mut [u8],
     used: usize,
 ) -> Said
-    ensures { λ r. ⌜ ((cs : List ℕ) (t : Reply Table) → Held cs (now (bytes .entry)) line → treeMost < length (now (bytes .entry))
+    ensures { λ r. ⌜ ((cs : List ℕ) (t : Reply Table) → LineHeld cs (now (bytes .entry)) line → treeMost < length (now (bytes .entry))
         → Opens (now (frames .entry)) (now (numbers .entry)) t opening
         → Answered t (bytesOf cs) (length (now (room .entry))) (now (out .entry)) used (now (out .exit)) r) ⌝ }
 {

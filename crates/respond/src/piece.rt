@@ -10,10 +10,10 @@ ghost use Rattle.machine.specs.Machine.{Table};
 ghost use Rattle.text.specs.Lines.{linesOf};
 ghost use Rattle.trees.specs.Shape.{treeMost};
 ghost use Rattle.table.specs.Opening.{Opens};
-ghost use Rattle.hexline.specs.SoFar.{Held};
+ghost use Rattle.hexline.specs.SoFar.{LineHeld};
 ghost use Rattle.output.specs.Queue.{Queued};
 ghost use Rattle.respond.specs.Response.{lineAnswer};
-ghost use Rattle.respond.specs.Piece.{NoFeed, Left};
+ghost use Rattle.respond.specs.Piece.{FeedFree, LinesAnswered};
 
 // What a piece leaves: the line so far, and how many bytes wait to be written.
 pub struct Rest {
@@ -34,7 +34,7 @@ pub fn answer(
     counts: &mut [u64],
     used: usize,
 ) -> usize
-    ensures { λ r. ⌜ ((cs : List ℕ) (t : Reply Table) → Held cs (now (tree .entry)) line → treeMost < length (now (tree .entry))
+    ensures { λ r. ⌜ ((cs : List ℕ) (t : Reply Table) → LineHeld cs (now (tree .entry)) line → treeMost < length (now (tree .entry))
         → Opens (now (frames .entry)) (now (numbers .entry)) t opening
         → Queued (lineAnswer t (length (now (room .entry))) cs) (now (out .entry)) used (now (out .exit)) r) ⌝ }
 {
@@ -56,9 +56,9 @@ pub fn take(
     out: &mut [u8],
     counts: &mut [u64],
 ) -> Rest
-    ensures { λ r. ⌜ ((cs : List ℕ) (t : Reply Table) → NoFeed cs → Held cs (now (tree .entry)) line → treeMost < length (now (tree .entry))
+    ensures { λ r. ⌜ ((cs : List ℕ) (t : Reply Table) → FeedFree cs → LineHeld cs (now (tree .entry)) line → treeMost < length (now (tree .entry))
         → Opens (now (frames .entry)) (now (numbers .entry)) t opening
-        → Left t (length (now (room .entry))) (linesOf (cs ++ now (piece .entry))) (now (out .entry)) 0 (now (out .exit)) (r .used) (now (tree .exit)) (r .line)) ⌝ }
+        → LinesAnswered t (length (now (room .entry))) (linesOf (cs ++ now (piece .entry))) (now (out .entry)) 0 (now (out .exit)) (r .used) (now (tree .exit)) (r .line)) ⌝ }
 {
     let mut line = line;
     let mut used = 0;

@@ -5,13 +5,13 @@ use native.Mathlib.Omega.{arith}
 use lib.ListN.{length}
 use borrow.Author.Needs.{needs}
 use Rattle.hexline.proofs.Laws.{taken-inside}
-use Rattle.respond.proofs.Pieces.{Going, going-none, going-fed, going-answered, taken-feed, going-all}
+use Rattle.respond.proofs.Pieces.{PieceSoFar, going-none, going-fed, going-answered, taken-feed, going-all}
 use Rattle.respond.proofs.piece.take.Statement.{statement}
 use Rattle.respond.proofs.piece.take.Tie as tie
 
 abbrev Inv-loop : tie.InvT-loop
 Inv-loop piece opening frames numbers tree₀ plan₀ room₀ out₀ counts₀ line₀ used₀ at₀ tree plan room out counts line used at =
-    Going frames numbers tree₀ line₀ opening (length room₀) piece out₀ at used out tree line
+    PieceSoFar frames numbers tree₀ line₀ opening (length room₀) piece out₀ at used out tree line
     × (length room ≡ length room₀)
     × (length out ≡ length out₀)
     × (length counts ≡ length counts₀)
