@@ -1,11 +1,6 @@
-// The lines that answer lines of hexadecimal: the word of a line's tree under an opened table, a
+// The line that answers a line of hexadecimal: the word of the line's tree under an opened table, a
 // refusal, or that the line is not hexadecimal.
-mod piece;
-
 use hexline::SoFar;
-pub use piece::Rest;
-pub use piece::answer;
-pub use piece::take;
 use table::Opening;
 use why_no_word::WordAnswer;
 use words::No;
@@ -52,7 +47,8 @@ fn to_tree(
     out: &mut [u8],
     used: usize,
 ) -> Said
-    ensures { λ r. ⌜ Meant (now (frames .entry)) (now (numbers .entry)) (λ M. Responds (wordInto M (now (tree .entry)) (length (now (room .entry)))) (now (out .entry)) used (now (out .exit)) r) ⌝ }
+    ensures { λ r. ⌜ Meant (now (frames .entry)) (now (numbers .entry)) (λ M.
+        Responds (wordInto M (now (tree .entry)) (length (now (room .entry)))) (now (out .entry)) used (now (out .exit)) r) ⌝ }
 {
     match word_call::find(frames, numbers, tree, plan, room) {
         WordAnswer::Found(found) => {

@@ -40,7 +40,7 @@ fn take_and_write(
     out: &mut [u8],
     counts: &mut [u64],
 ) -> State {
-    let rest = respond::take(
+    let rest = pieces::take(
         line,
         piece,
         opening,
@@ -156,7 +156,7 @@ fn answer_last(
     if !line.any {
         return;
     }
-    let used = respond::answer(
+    let used = pieces::answer(
         line,
         opening,
         frames,

@@ -2,7 +2,6 @@
 use mathlib.Core.Path.{_≡_, refl, sym, ap, subst, _∙_}
 use mathlib.Core.Bool.{Bool, true, false}
 use mathlib.Core.List.{List, [], _∷_, _++_, append-nil, append-assoc}
-use mathlib.Core.Option.{Option, none, some}
 use Prim.Native.Nat.{ℕ, zero, suc, _+_, _-_, _<_, _≤_}
 use native.Mathlib.Omega.{arith}
 use borrow.Author.Tests.{eqb-true}
@@ -12,7 +11,7 @@ use lib.ListN.{length, take, drop, getD, length-take, length-drop}
 use lib.Seq.{take-all, take-suc, take-add, getD-take, getD-drop}
 use Rattle.words.specs.Reply.{Reply}
 use Rattle.machine.specs.Machine.{Table}
-use Rattle.text.specs.Lines.{Lines, behind, line, push, linesOf, bytesOf}
+use Rattle.text.specs.Lines.{Lines, behind, line, push, linesOf}
 use Rattle.trees.specs.Shape.{treeMost}
 use Rattle.table.specs.Opening.{Opens}
 use Rattle.table.specs.declared.Opening.{Opening}
@@ -21,28 +20,20 @@ use Rattle.hexline.specs.declared.SoFar.{SoFar}
 use Rattle.hexline.proofs.Laws.{taken-inside}
 use Rattle.output.specs.Queue.{Queued}
 use Rattle.output.proofs.Queues.{queued-none, queued-as, queued-then}
-use Rattle.respond.specs.Response.{lineAnswer, Answered, Responds, Strange}
-use Rattle.respond.specs.Piece.{FeedFree, answersTo, lastOf, LinesAnswered}
-use Rattle.respond.specs.declared.Said.{Said}
+use Rattle.respond.specs.Response.{lineAnswer}
+use Rattle.pieces.specs.Piece.{FeedFree, answersTo, lastOf, LinesAnswered}
 
--- What was put for a line is its answer.
-pub answered-line : (t : Reply Table) (room u : ℕ) (cs O O′ : List ℕ) (s : Said) → Answered t (bytesOf cs) room O u O′ s → Queued (lineAnswer t room cs) O u O′ (s .used)
-unfolding lineAnswer
-answered-line t room u cs O O′ s a = go (bytesOf cs) refl a
-  where
-    go : (o : Option (List ℕ)) → bytesOf cs ≡ o → Answered t o room O u O′ s → Queued (lineAnswer t room cs) O u O′ (s .used)
-    go none e b = rw (e, lineAnswer) (b .line)
-    go (some bs) e b = rw (e, lineAnswer) (b .line)
-
--- Characters in front of lines, and lines behind lines.
+-- Characters in front of lines.
 unfoldable before : List ℕ → Lines → Lines
 before [] m = m
 before (c ∷ l) m = push c (before l m)
 
+-- Lines behind lines.
 unfoldable joined : Lines → Lines → Lines
 joined (behind l) m = before l m
 joined (line l ls) m = line l (joined ls m)
 
+-- A character in front of both.
 push-joined : (c : ℕ) (ls m : Lines) → push c (joined ls m) ≡ joined (push c ls) m
 unfolding joined before
 push-joined c (behind l) m = refl
@@ -66,15 +57,18 @@ unfolding linesOf
 lines-none [] h = refl
 lines-none (y ∷ ys) h = go (eqb y 0x0a) refl (lines-none ys (λ k i e. h (suc k) (omega arith) e))
   where
-    go : (b : Bool) → eqb y 0x0a ≡ b → linesOf ys ≡ behind ys → elim b as (λ z. Lines) [ true ↦ line [] (linesOf ys) | false ↦ push y (linesOf ys) ] ≡ behind (y ∷ ys)
+    go : (b : Bool) → eqb y 0x0a ≡ b → linesOf ys ≡ behind ys
+        → elim b as (λ z. Lines) [ true ↦ line [] (linesOf ys) | false ↦ push y (linesOf ys) ] ≡ behind (y ∷ ys)
     go true e f = absurd (h 0 (omega arith) (eqb-true y 0x0a e))
     go false e f = ap (push y) f
 
+-- Characters in front of what is no whole line.
 before-behind : (l ys : List ℕ) → before l (behind ys) ≡ behind (l ++ ys)
 unfolding before
 before-behind [] ys = refl
 before-behind (c ∷ l) ys = ap (push c) (before-behind l ys)
 
+-- Characters in front of a line feed.
 before-line : (l : List ℕ) → before l (line [] (behind [])) ≡ line l (behind [])
 unfolding before
 before-line [] = refl
@@ -92,16 +86,19 @@ module _ (t : Reply Table) (room : ℕ) where
 
   -- The line feed of the last line.
   joined-feed : (ls : Lines)
-      → (answersTo t room (joined ls (line [] (behind []))) ≡ answersTo t room ls ++ lineAnswer t room (lastOf ls)) × (lastOf (joined ls (line [] (behind []))) ≡ [])
+      → (answersTo t room (joined ls (line [] (behind []))) ≡ answersTo t room ls ++ lineAnswer t room (lastOf ls))
+      × (lastOf (joined ls (line [] (behind []))) ≡ [])
   unfolding joined answersTo lastOf
   joined-feed (behind l) = (ap (answersTo t room) (before-line l) ∙ append-nil (lineAnswer t room l), ap lastOf (before-line l))
   joined-feed (line l ls) =
       let i = joined-feed ls in
-      (ap (λ (x : List ℕ). lineAnswer t room l ++ x) (i .0) ∙ sym (append-assoc (lineAnswer t room l) (answersTo t room ls) (lineAnswer t room (lastOf ls))), i .1)
+      let e = sym (append-assoc (lineAnswer t room l) (answersTo t room ls) (lineAnswer t room (lastOf ls))) in
+      (ap (λ (x : List ℕ). lineAnswer t room l ++ x) (i .0) ∙ e, i .1)
 
   -- More characters of the last line came.
   left-fed : (xs ys O O′ T T′ : List ℕ) (u r : ℕ) (l l′ : SoFar) → LinesAnswered t room (linesOf xs) O u O′ r T l → FeedFree ys
-      → (LineHeld (lastOf (linesOf xs)) T l → LineHeld (lastOf (linesOf xs) ++ ys) T′ l′) → LinesAnswered t room (linesOf (xs ++ ys)) O u O′ r T′ l′
+      → (LineHeld (lastOf (linesOf xs)) T l → LineHeld (lastOf (linesOf xs) ++ ys) T′ l′)
+      → LinesAnswered t room (linesOf (xs ++ ys)) O u O′ r T′ l′
   left-fed xs ys O O′ T T′ u r l l′ a h f =
       let j = joined-behind (linesOf xs) ys in
       let e : linesOf (xs ++ ys) ≡ joined (linesOf xs) (behind ys) = lines-append xs ys ∙ ap (joined (linesOf xs)) (lines-none ys h) in
@@ -134,10 +131,11 @@ module _ (t : Reply Table) (room : ℕ) where
       }
 
 module _ (piece : List ℕ) where
-  -- What the lender of the rest of the piece knows of the characters that were taken.
+  -- The rest of the piece, as it is lent.
   part : (at : ℕ) → take (length piece - at) (drop at piece) ≡ drop at piece
   part at = take-all (length piece - at) (drop at piece) (omega (arith, length-drop at piece))
 
+  -- None of them is a line feed.
   taken-plain : (at n : ℕ) → UpToFeed (take (length piece - at) (drop at piece)) n → FeedFree (take n (drop at piece))
   taken-plain at n k j h e =
       let g : j < n = omega (arith, length-take n (drop at piece)) in
@@ -150,49 +148,59 @@ module _ (piece : List ℕ) where
       sym (getD-drop at piece n 0) ∙ sym (ap (λ (x : List ℕ). getD x n 0) (part at)) ∙ k .end g
 
 -- The loop over a piece: the answers to the lines that end before `at` were put, whatever characters came before the piece.
-pub record PieceSoFar (F I T₀ : List ℕ) (l₀ : SoFar) (o : Opening) (room : ℕ) (piece O₀ : List ℕ) (at used : ℕ) (O T : List ℕ) (l : SoFar) : Type 0 where
+pub record PieceSoFar (F I T₀ : List ℕ) (l₀ : SoFar) (o : Opening) (room : ℕ) (piece O₀ : List ℕ) (at used : ℕ) (O T : List ℕ)
+    (l : SoFar) : Type 0 where
   pub inside : at ≤ length piece
   pub long : length T ≡ length T₀
   pub left : (cs : List ℕ) (t : Reply Table) → FeedFree cs → LineHeld cs T₀ l₀ → treeMost < length T₀ → Opens F I t o
       → LinesAnswered t room (linesOf (cs ++ take at piece)) O₀ 0 O used T l
 
-module _ (F I T₀ : List ℕ) (l₀ : SoFar) (o : Opening) (room : ℕ) (piece O₀ : List ℕ) where
-  pub going-none : PieceSoFar F I T₀ l₀ o room piece O₀ 0 0 O₀ T₀ l₀
-  going-none = record { inside = omega arith; long = refl; left = λ cs t n h m s. left-none t room cs piece O₀ T₀ l₀ n h }
+module _ {F I T₀ : List ℕ} {l₀ : SoFar} {o : Opening} {room : ℕ} {O₀ : List ℕ} (piece : List ℕ) where
+  -- Nothing was taken yet.
+  pub so-far-none : PieceSoFar F I T₀ l₀ o room piece O₀ 0 0 O₀ T₀ l₀
+  so-far-none = record { inside = omega arith; long = refl; left = λ cs t n h m s. left-none t room cs piece O₀ T₀ l₀ n h }
 
   -- Characters up to a line feed or the piece's end.
-  pub going-fed : (at used n : ℕ) (O T T′ : List ℕ) (l l′ : SoFar) → PieceSoFar F I T₀ l₀ o room piece O₀ at used O T l
+  pub so-far-fed : (at n : ℕ) {used : ℕ} {O T T′ : List ℕ} {l l′ : SoFar} → PieceSoFar F I T₀ l₀ o room piece O₀ at used O T l
       → UpToFeed (take (length piece - at) (drop at piece)) n
       → ((cs : List ℕ) → LineHeld cs T l → LineHeld (cs ++ take n (take (length piece - at) (drop at piece))) T′ l′) → length T′ ≡ length T
       → PieceSoFar F I T₀ l₀ o room piece O₀ (at + n) used O T′ l′
-  going-fed at used n O T T′ l l′ g k f e =
+  so-far-fed at n {used} {O} {T} {T′} {l} {l′} g k f e =
       record {
         inside = taken-inside piece at n k (g .inside);
         long = e ∙ g .long;
         left = λ cs t i h m s.
-            subst (λ (x : List ℕ). LinesAnswered t room (linesOf x) O₀ 0 O used T′ l′) (append-assoc cs (take at piece) (take n (drop at piece)) ∙ ap (λ (x : List ℕ). cs ++ x) (sym (take-add at n piece)))
+            let more = append-assoc cs (take at piece) (take n (drop at piece)) ∙ ap (λ (x : List ℕ). cs ++ x) (sym (take-add at n piece)) in
+            let last : List ℕ = lastOf (linesOf (cs ++ take at piece)) in
+            subst (λ (x : List ℕ). LinesAnswered t room (linesOf x) O₀ 0 O used T′ l′) more
             (left-fed t room (cs ++ take at piece) (take n (drop at piece)) O₀ O T T′ 0 used l l′ (g .left cs t i h m s) (taken-plain piece at n k)
-            (λ d. subst (λ (x : List ℕ). LineHeld (lastOf (linesOf (cs ++ take at piece)) ++ take n x) T′ l′) (part piece at) (f (lastOf (linesOf (cs ++ take at piece))) d)));
+            (λ d. subst (λ (x : List ℕ). LineHeld (last ++ take n x) T′ l′) (part piece at) (f last d)));
       }
 
   -- A line feed, whose line was answered.
-  pub going-answered : (at used r room′ : ℕ) (O O′ T : List ℕ) (l l′ : SoFar) → PieceSoFar F I T₀ l₀ o room piece O₀ at used O T l → room′ ≡ room
+  pub so-far-answered : (at : ℕ) {used r room′ : ℕ} {O O′ T : List ℕ} {l l′ : SoFar} → PieceSoFar F I T₀ l₀ o room piece O₀ at used O T l
+      → room′ ≡ room
       → ((cs : List ℕ) (t : Reply Table) → LineHeld cs T l → treeMost < length T → Opens F I t o → Queued (lineAnswer t room′ cs) O used O′ r)
-      → ((tree : List ℕ) → LineHeld [] tree l′) → at < length piece → getD piece at 0 ≡ 0x0a → PieceSoFar F I T₀ l₀ o room piece O₀ (at + 1) r O′ T l′
-  going-answered at used r room′ O O′ T l l′ g q f h i e =
+      → ((tree : List ℕ) → LineHeld [] tree l′) → at < length piece → getD piece at 0 ≡ 0x0a
+      → PieceSoFar F I T₀ l₀ o room piece O₀ (at + 1) r O′ T l′
+  so-far-answered at {used} {r} {room′} {O} {O′} {T} {l} {l′} g q f h i e =
       record {
         inside = omega arith;
         long = g .long;
         left = λ cs t j d m s.
-            let z : take (at + 1) piece ≡ take at piece ++ 0x0a ∷ [] = ap (λ (k : ℕ). take k piece) (add-one at) ∙ take-suc piece at 0 i ∙ ap (λ (k : ℕ). take at piece ++ k ∷ []) e in
-            subst (λ (x : List ℕ). LinesAnswered t room (linesOf x) O₀ 0 O′ r T l′) (append-assoc cs (take at piece) (0x0a ∷ []) ∙ ap (λ (x : List ℕ). cs ++ x) (sym z))
+            let z : take (at + 1) piece ≡ take at piece ++ 0x0a ∷ [] =
+            ap (λ (k : ℕ). take k piece) (add-one at) ∙ take-suc piece at 0 i ∙ ap (λ (k : ℕ). take at piece ++ k ∷ []) e in
+            let last : List ℕ = lastOf (linesOf (cs ++ take at piece)) in
+            subst (λ (x : List ℕ). LinesAnswered t room (linesOf x) O₀ 0 O′ r T l′)
+            (append-assoc cs (take at piece) (0x0a ∷ []) ∙ ap (λ (x : List ℕ). cs ++ x) (sym z))
             (left-answered t room (cs ++ take at piece) O₀ O O′ T T 0 used r l l′ (g .left cs t j d m s)
-            (λ k. subst (λ (n : ℕ). Queued (lineAnswer t n (lastOf (linesOf (cs ++ take at piece)))) O used O′ r) q
-            (f (lastOf (linesOf (cs ++ take at piece))) t k (subst (λ (n : ℕ). treeMost < n) (sym (g .long)) m) s)) (h T));
+            (λ k. subst (λ (n : ℕ). Queued (lineAnswer t n last) O used O′ r) q (f last t k (subst (λ (n : ℕ). treeMost < n) (sym (g .long)) m) s))
+            (h T));
       }
 
   -- The whole piece.
-  pub going-all : (at used : ℕ) (O T : List ℕ) (l : SoFar) → PieceSoFar F I T₀ l₀ o room piece O₀ at used O T l → length piece ≤ at
-      → (cs : List ℕ) (t : Reply Table) → FeedFree cs → LineHeld cs T₀ l₀ → treeMost < length T₀ → Opens F I t o → LinesAnswered t room (linesOf (cs ++ piece)) O₀ 0 O used T l
-  going-all at used O T l g h cs t n d m s =
+  pub so-far-all : (at : ℕ) {used : ℕ} {O T : List ℕ} {l : SoFar} → PieceSoFar F I T₀ l₀ o room piece O₀ at used O T l → length piece ≤ at
+      → (cs : List ℕ) (t : Reply Table) → FeedFree cs → LineHeld cs T₀ l₀ → treeMost < length T₀ → Opens F I t o
+      → LinesAnswered t room (linesOf (cs ++ piece)) O₀ 0 O used T l
+  so-far-all at {used} {O} {T} {l} g h cs t n d m s =
       subst (λ (x : List ℕ). LinesAnswered t room (linesOf (cs ++ x)) O₀ 0 O used T l) (take-all at piece h) (g .left cs t n d m s)

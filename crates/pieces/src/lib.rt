@@ -1,6 +1,6 @@
 // The lines of a piece of the input, answered one after the other.
-use crate::to_line;
 use hexline::SoFar;
+use respond::to_line;
 use table::Opening;
 ghost use mathlib.Core.List.{List, _++_};
 ghost use Prim.Native.Nat.{ℕ, _<_};
@@ -12,8 +12,8 @@ ghost use Rattle.trees.specs.Shape.{treeMost};
 ghost use Rattle.table.specs.Opening.{Opens};
 ghost use Rattle.hexline.specs.SoFar.{LineHeld};
 ghost use Rattle.output.specs.Queue.{Queued};
 ghost use Rattle.respond.specs.Response.{lineAnswer};
-ghost use Rattle.respond.specs.Piece.{FeedFree, LinesAnswered};
+ghost use Rattle.pieces.specs.Piece.{FeedFree, LinesAnswered};
 
 // What a piece leaves: the line so far, and how many bytes wait to be written.
 pub struct Rest {
@@ -58,7 +58,8 @@ pub fn take(
 ) -> Rest
     ensures { λ r. ⌜ ((cs : List ℕ) (t : Reply Table) → FeedFree cs → LineHeld cs (now (tree .entry)) line → treeMost < length (now (tree .entry))
         → Opens (now (frames .entry)) (now (numbers .entry)) t opening
-        → LinesAnswered t (length (now (room .entry))) (linesOf (cs ++ now (piece .entry))) (now (out .entry)) 0 (now (out .exit)) (r .used) (now (tree .exit)) (r .line)) ⌝ }
+        → LinesAnswered t (length (now (room .entry))) (linesOf (cs ++ now (piece .entry))) (now (out .entry)) 0 (now (out .exit)) (r .used)
+        (now (tree .exit)) (r .line)) ⌝ }
 {
     let mut line = line;
     let mut used = 0;

@@ -1,13 +1,13 @@
 -- `answer` meets its contract: what was put for the line is its answer.
-use Rattle.respond.proofs.Pieces.{answered-line}
+use Rattle.respond.proofs.Laws.{answered-line}
 use borrow.Author.Needs.{needs}
-use Rattle.respond.proofs.piece.answer.Statement.{statement}
-use Rattle.respond.proofs.piece.answer.Tie as tie
+use Rattle.pieces.proofs.answer.Statement.{statement}
+use Rattle.pieces.proofs.answer.Tie as tie
 
 returns : tie.Need-returns
 returns c =
-    let c8 = c .before .before .before .before .before .before .before .before in
-    λ cs t h m o. answered-line t _ _ cs _ _ _ (c8 .to-line .ensures cs t h m o)
+    let called = c .before .before .before .before .before .before .before .before in
+    λ cs t h m o. answered-line t _ _ cs _ _ _ (called .to-line .ensures cs t h m o)
 
 pub answer-spec : {M : Type 1} → statement M
 answer-spec =

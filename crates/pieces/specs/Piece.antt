@@ -26,6 +26,7 @@ lastOf (behind l) = l
 lastOf (line l ls) = lastOf ls
 
 -- The answers to all whole lines were put, and the line so far tells of the characters behind the last line feed.
-pub record LinesAnswered (t : Reply Table) (room : ℕ) (ls : Lines) (O : List ℕ) (used : ℕ) (O′ : List ℕ) (r : ℕ) (tree : List ℕ) (l : SoFar) : Type 0 where
+pub record LinesAnswered (t : Reply Table) (room : ℕ) (ls : Lines) (O : List ℕ) (used : ℕ) (O′ : List ℕ) (r : ℕ) (tree : List ℕ) (l : SoFar)
+    : Type 0 where
   pub answers : Queued (answersTo t room ls) O used O′ r
   pub held : LineHeld (lastOf ls) tree l
