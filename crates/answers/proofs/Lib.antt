@@ -1,3 +1,2 @@
--- Laws of the parts of lines and of counts.
+-- Laws of the parts of lines.
 mod Texts
-mod Sums

@@ -1,3 +1,2 @@
--- The lines that the programs print.
+-- The lines that the programs answer.
 pub mod Lines
-pub mod Counts

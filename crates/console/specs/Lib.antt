@@ -1,1 +1,2 @@
+-- What reading answers.
 pub mod Input

@@ -9,14 +9,19 @@ pub fn tell(fd: i32, usage: &[u8]) {
     );
 }
 
+// Whether a word asks for help.
+fn is_help(word: &[u8]) -> bool {
+    if check::same(word, b"--help") {
+        return true;
+    }
+    check::same(word, b"-h")
+}
+
 // Whether argument i asks for help.
 fn asks_help(i: usize) -> bool {
     let mut word = io::buffer();
     let n = os::arg(i, &mut word);
-    if check::same(&word[..n], b"--help") {
-        return true;
-    }
-    check::same(&word[..n], b"-h")
+    is_help(&word[..n])
 }
 
 // Whether the program was started with so many arguments. If not, or where help is asked for, says

@@ -15,7 +15,7 @@ pub fn narrow(x: usize) -> u8
 }
 
 // The digit of a value below 16. From 10 on the letters begin, 39 behind the digits; v + 6 reaches 16 there.
-fn digit(v: u8) -> u8
+pub fn digit(v: u8) -> u8
     requires { ⌜ v < 16 ⌝ }
     ensures { λ r. ⌜ r ≡ digitOf v ⌝ }
 {

@@ -32,12 +32,14 @@ unfolding oneChild
 state-fault states bs k e = rw e
 
 -- The word is refused.
-pub after-fault : (states : ℕ) (bs : List ℕ) (q k : ℕ) (s : List ℕ) → below states bs ≡ got q s → text s ≡ fault k → oneChild states bs ≡ fault k
+pub after-fault : (states : ℕ) (bs : List ℕ) (q k : ℕ) (s : List ℕ) → below states bs ≡ got q s → text s ≡ fault k
+    → oneChild states bs ≡ fault k
 unfolding oneChild
 after-fault states bs q k s e f = rw (e, f)
 
 -- Both are read.
-pub child-read : (states : ℕ) (bs : List ℕ) (q : ℕ) (s : List ℕ) (u : Word) (r : List ℕ) → below states bs ≡ got q s → text s ≡ got u r → oneChild states bs ≡ got (record { state = q; after = u }) r
+child-read : (states : ℕ) (bs : List ℕ) (q : ℕ) (s : List ℕ) (u : Word) (r : List ℕ) → below states bs ≡ got q s → text s ≡ got u r
+    → oneChild states bs ≡ got (record { state = q; after = u }) r
 unfolding oneChild
 child-read states bs q s u r e f = rw (e, f)
 
@@ -56,7 +58,8 @@ pub child-fault : (F : List ℕ) (at end k n : ℕ) (o : Parsed Child) → o ≡
 child-fault F at end k n o e f = rw e f
 
 -- A child that is read.
-pub child-got : (F : List ℕ) (at end states q u n then : ℕ) → IsNumber F at end q u (below states (slice at end F)) → IsWord F u end n then (text (slice u end F))
+pub child-got : (F : List ℕ) (at end states q u n then : ℕ) → IsNumber F at end q u (below states (slice at end F))
+    → IsWord F u end n then (text (slice u end F))
     → ChildRead F at end (oneChild states (slice at end F)) (one.Got q then n)
 child-got F at end states q u n then i w =
     rw (child-read states (slice at end F) q (slice u end F) (slice (u + 1) then F) (slice then end F) (i .read) (w .read))
@@ -73,7 +76,8 @@ pub record IsChild (F : List ℕ) (at end q then n : ℕ) (o : Parsed Child) : T
   pub inside : then ≤ end
 
 -- An answer with a state says that the child is read.
-pub got-child : (F : List ℕ) (at end q then n : ℕ) (o : Parsed Child) (r : OneChild) → r ≡ one.Got q then n → ChildRead F at end o r → IsChild F at end q then n o
+pub got-child : (F : List ℕ) (at end q then n : ℕ) (o : Parsed Child) (r : OneChild) → r ≡ one.Got q then n → ChildRead F at end o r
+    → IsChild F at end q then n o
 got-child F at end q then n (got c bs) r e h =
     let w : ChildAt F bs c at end q then n = rw e at h in
     record { child = c; read = ap (got c) (w .left); state = w .state; letters = w .letters; short = w .short; next = w .next; inside = w .inside }

@@ -13,7 +13,7 @@ use Rattle.text.proofs.Fields.{then-inv}
 use Rattle.fields.specs.Read.{oneChild, Family, KidsRead, FirstAfter, RestAfter}
 use Rattle.fields.specs.declared.Kids.{Kids}
 use Rattle.fields.specs.declared.Kids.the-variants as kids
-use Rattle.fields.proofs.Packed.{first-snoc, later-snoc, Room, room-none, room-more, packed-right}
+use Rattle.fields.proofs.Packed.{first-snoc, later-snoc, LaterRoom, room-none, room-more, packed-right}
 use Rattle.fields.proofs.Family.{IsChild, child-below}
 
 -- Children in front of others.
@@ -37,7 +37,8 @@ front-cons c (got cs bs) = refl
 front-cons c (fault n) = refl
 
 -- Where two readers refuse, the first has refused, or it has read and the second has refused.
-then-fault : {A B : Type 0} {P : Type 0} (p : Parsed A) (k : A → Field B) (n : ℕ) → andThen p k ≡ fault n → (p ≡ fault n → P) → ((a : A) (s : List ℕ) → p ≡ got a s → k a s ≡ fault n → P) → P
+then-fault : {A B : Type 0} {P : Type 0} (p : Parsed A) (k : A → Field B) (n : ℕ) → andThen p k ≡ fault n → (p ≡ fault n → P)
+    → ((a : A) (s : List ℕ) → p ≡ got a s → k a s ≡ fault n → P) → P
 then-fault (got a s) k n e f g = g a s refl e
 then-fault (fault m) k n e f g = f (cc)
 
@@ -48,10 +49,12 @@ children-fault : (states k : ℕ) (bs : List ℕ) (n : ℕ) → 0 < k → oneChi
 unfolding children oneChild
 children-fault states zero bs n h e = absurd (omega arith)
 children-fault states (suc k) bs n h e =
-    then-fault (below states bs) _ n e (λ f. rw f) λ q t i e₁. then-fault (text t) _ n e₁ (λ f. rw (i, f)) λ u r j e₂. absurd (let z : _≡_ {A = ℕ} 0 1 = cc in omega arith)
+    then-fault (below states bs) _ n e (λ f. rw f) λ q t i e₁.
+    then-fault (text t) _ n e₁ (λ f. rw (i, f)) λ u r j e₂. absurd (let z : _≡_ {A = ℕ} 0 1 = cc in omega arith)
 
 -- A child that is read, and those behind it.
-children-more : (states k : ℕ) (bs : List ℕ) (c : Child) (s : List ℕ) → 0 < k → oneChild states bs ≡ got c s → children states k bs ≡ front (c ∷ []) (children states (k - 1) s)
+children-more : (states k : ℕ) (bs : List ℕ) (c : Child) (s : List ℕ) → 0 < k → oneChild states bs ≡ got c s
+    → children states k bs ≡ front (c ∷ []) (children states (k - 1) s)
 unfolding children oneChild
 children-more states zero bs c s h e = absurd (omega arith)
 children-more states (suc k) bs c s h e =
@@ -75,7 +78,7 @@ letters-snoc (d ∷ cs) c = omega (arith, letters-snoc cs c)
 -- ---- all steps so far
 
 -- The children acc are read, and `left` children are to be read from `next` on.
-pub record Begun (F : List ℕ) (at end states count next letters first rest left : ℕ) : Type 0 where
+pub record KidsSoFar (F : List ℕ) (at end states count next letters first rest left : ℕ) : Type 0 where
   pub acc : List Child
   pub number : length acc + left ≡ count
   pub from : at ≤ next
@@ -86,10 +89,10 @@ pub record Begun (F : List ℕ) (at end states count next letters first rest lef
   pub first-state : first ≡ firstState acc
   pub first-small : first < 64
   pub later-states : rest ≡ laterStates acc
-  pub room : Room (length acc) rest
+  pub room : LaterRoom (length acc) rest
 
 -- Nothing is read yet.
-pub begin : (F : List ℕ) (at end states count : ℕ) → at ≤ end → Begun F at end states count at 0 0 0 count
+pub begin : (F : List ℕ) (at end states count : ℕ) → at ≤ end → KidsSoFar F at end states count at 0 0 0 count
 unfolding restLetters firstState laterStates
 begin F at end states count h = record {
   acc = [];
@@ -105,14 +108,15 @@ begin F at end states count h = record {
   room = room-none;
 }
 
-module _ {F : List ℕ} {at end states count next letters first rest left : ℕ} (b : Begun F at end states count next letters first rest left) where
+module _ {F : List ℕ} {at end states count next letters first rest left : ℕ} (b : KidsSoFar F at end states count next letters first rest left) where
   -- A child is refused.
-  pub begun-fault : (k n : ℕ) → 0 < left → oneChild states (slice next end F) ≡ fault k → n ≡ k → KidsRead F at end (children states count (slice at end F)) (kids.Fault n)
+  pub begun-fault : (k n : ℕ) → 0 < left → oneChild states (slice next end F) ≡ fault k → n ≡ k
+      → KidsRead F at end (children states count (slice at end F)) (kids.Fault n)
   begun-fault k n h e f = rw (b .remains, children-fault states left (slice next end F) k h e) f
 
   -- A child is read.
-  pub begun-more : (q then n v w : ℕ) → 0 < left → states ≤ 64 → IsChild F next end q then n (oneChild states (slice next end F)) → FirstAfter (count - left) first q v → RestAfter (count - left) rest q w
-      → Begun F at end states count then (letters + n) v w (left - 1)
+  pub begun-more : (q then n v w : ℕ) → 0 < left → states ≤ 64 → IsChild F next end q then n (oneChild states (slice next end F))
+      → FirstAfter (count - left) first q v → RestAfter (count - left) rest q w → KidsSoFar F at end states count then (letters + n) v w (left - 1)
   begun-more q then n v w h k i x y =
       let c : Child = i .child in
       let l = length-append (b .acc) (c ∷ []) in
@@ -123,7 +127,9 @@ module _ {F : List ℕ} {at end states count next letters first rest left : ℕ}
         number = omega (arith, b .number, l);
         from = omega (arith, b .from, i .next);
         inside = i .inside;
-        remains = b .remains ∙ ap (front (b .acc)) (children-more states left (slice next end F) c (slice then end F) h (i .read)) ∙ front-snoc (b .acc) c (children states (left - 1) (slice then end F));
+        remains =
+            b .remains ∙ ap (front (b .acc)) (children-more states left (slice next end F) c (slice then end F) h (i .read)) ∙
+            front-snoc (b .acc) c (children states (left - 1) (slice then end F));
         all-letters = omega (arith, b .all-letters, i .letters, letters-snoc (b .acc) c);
         few = omega (arith, b .few, i .short, l);
         first-state = first-snoc (b .acc) c (count - left) first q v done (b .first-state) (i .state) x;
@@ -133,10 +139,13 @@ module _ {F : List ℕ} {at end states count next letters first rest left : ℕ}
       }
 
   -- All children are read.
-  pub begun-all : (x : ℕ) → left ≤ 0 → count ≤ 4 → x ≡ first * 2 ^ 21 + rest * 2 ^ 31 + count * 2 ^ 61 → x < 5 * 2 ^ 61 → KidsRead F at end (children states count (slice at end F)) (kids.Got next letters x)
+  pub begun-all : (x : ℕ) → left ≤ 0 → count ≤ 4 → x ≡ first * 2 ^ 21 + rest * 2 ^ 31 + count * 2 ^ 61 → x < 5 * 2 ^ 61
+      → KidsRead F at end (children states count (slice at end F)) (kids.Got next letters x)
   begun-all x h k e m =
       let l : length (b .acc) ≡ count = omega (arith, b .number) in
-      let r : children states count (slice at end F) ≡ got (b .acc) (slice next end F) = b .remains ∙ ap (front (b .acc)) (children-none states left (slice next end F) h) ∙ ap (λ x. got x (slice next end F)) (append-nil (b .acc)) in
+      let r : children states count (slice at end F) ≡ got (b .acc) (slice next end F) =
+      b .remains ∙ ap (front (b .acc)) (children-none states left (slice next end F) h) ∙
+      ap (λ x. got x (slice next end F)) (append-nil (b .acc)) in
       rw r (record {
         left = refl;
         from = b .from;
@@ -156,7 +165,8 @@ pub record IsFamily (F : List ℕ) (at end then n x : ℕ) (o : Parsed (List Chi
   pub family : Family F (slice then end F) read-children at end then n x
 
 -- An answer with a packed number says so.
-pub got-kids : (F : List ℕ) (at end then n x : ℕ) (o : Parsed (List Child)) (r : Kids) → r ≡ kids.Got then n x → KidsRead F at end o r → IsFamily F at end then n x o
+pub got-kids : (F : List ℕ) (at end then n x : ℕ) (o : Parsed (List Child)) (r : Kids) → r ≡ kids.Got then n x → KidsRead F at end o r
+    → IsFamily F at end then n x o
 got-kids F at end then n x (got cs bs) r e h =
     let f : Family F bs cs at end then n x = rw e at h in
     record { read-children = cs; read = ap (got cs) (f .left); family = rw (f .left) at f }

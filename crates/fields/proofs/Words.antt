@@ -61,7 +61,8 @@ pub record IsWord (F : List ℕ) (at end n then : ℕ) (o : Parsed Word) : Type 
   pub inside : then ≤ end
 
 -- An answer with a length says that the word is read.
-pub got-word : (F : List ℕ) (at end n then : ℕ) (o : Parsed Word) (r : declared.Field) → r ≡ field.Got n then → WordRead F at end o r → IsWord F at end n then o
+pub got-word : (F : List ℕ) (at end n then : ℕ) (o : Parsed Word) (r : declared.Field) → r ≡ field.Got n then → WordRead F at end o r
+    → IsWord F at end n then o
 got-word F at end n then (got u bs) r e h =
     let w : Stretch F bs u at end n then = rw e at h in
     record { read = cc (w .word, w .left); long = w .value ∙ ap length (w .word); short = w .short; next = w .next; inside = w .inside }

@@ -23,6 +23,7 @@ pub record Number (F bs : List ℕ) (v at end n then : ℕ) : Type 0 where
   pub next : then ≡ at + 1
   pub inside : then ≤ end
 
+-- What an answer says of a number field: it is read, or refused with the number that reading gives.
 abbrev pub NumberRead : List ℕ → ℕ → ℕ → Parsed ℕ → Field → Type 0
 NumberRead F at end (got v bs) (field.Got value next) = Number F bs v at end value next
 NumberRead F at end (got v bs) (field.Fault n) = ⊥
@@ -38,6 +39,7 @@ pub record Stretch (F bs : List ℕ) (u : Word) (at end n then : ℕ) : Type 0 w
   pub next : then ≡ at + 1 + n
   pub inside : then ≤ end
 
+-- What an answer says of a word field.
 abbrev pub WordRead : List ℕ → ℕ → ℕ → Parsed Word → Field → Type 0
 WordRead F at end (got u bs) (field.Got value next) = Stretch F bs u at end value next
 WordRead F at end (got u bs) (field.Fault n) = ⊥
@@ -60,6 +62,7 @@ pub record ChildAt (F bs : List ℕ) (c : Child) (at end q then n : ℕ) : Type 
   pub letters : n ≡ length (c .after)
   pub short : n ≤ 32
 
+-- What an answer says of a child's fields.
 abbrev pub ChildRead : List ℕ → ℕ → ℕ → Parsed Child → OneChild → Type 0
 ChildRead F at end (got c bs) (one.Got q then n) = ChildAt F bs c at end q then n
 ChildRead F at end (got c bs) (one.Fault n) = ⊥
@@ -76,31 +79,35 @@ pub record Family (F bs : List ℕ) (cs : List Child) (at end then n x : ℕ) : 
   pub few : n ≤ 128
   pub small : x < 5 * 2 ^ 61
 
+-- What an answer says of the children's fields.
 abbrev pub KidsRead : List ℕ → ℕ → ℕ → Parsed (List Child) → Kids → Type 0
 KidsRead F at end (got cs bs) (kids.Got then n x) = Family F bs cs at end then n x
 KidsRead F at end (got cs bs) (kids.Fault n) = ⊥
 KidsRead F at end (fault k) (kids.Got then n x) = ⊥
 KidsRead F at end (fault k) (kids.Fault n) = n ≡ k
 
--- The number of a refused field or child, 0 for one that is not.
+-- The number of a refused field, 0 for one that is not.
 abbrev pub faultOf : Field → ℕ
 faultOf (field.Got value next) = 0
 faultOf (field.Fault n) = n
 
+-- The number of a refused child, 0 for one that is not.
 abbrev pub childFaultOf : OneChild → ℕ
 childFaultOf (one.Got q then n) = 0
 childFaultOf (one.Fault n) = n
 
+-- The number of refused children, 0 for those that are not.
 abbrev pub kidsFaultOf : Kids → ℕ
 kidsFaultOf (kids.Got then n x) = 0
 kidsFaultOf (kids.Fault n) = n
 
--- One child more, behind `done` others: what the first child's state is then, and the states of the children behind it in one number.
+-- One child more, behind `done` others: what the first child's state is then.
 pub record FirstAfter (done first state r : ℕ) : Type 0 where
   pub new : done ≡ 0 → r ≡ state
   pub kept : 0 < done → r ≡ first
   pub small : r < 64
 
+-- And the states of the children behind the first in one number.
 pub record RestAfter (done rest state r : ℕ) : Type 0 where
   pub kept : done ≡ 0 → r ≡ rest
   pub longer : 0 < done → r ≡ rest * 1024 + state

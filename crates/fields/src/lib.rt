@@ -39,12 +39,6 @@ pub enum Kids {
     },
 }
 
-fn wide(x: u8) -> usize
-    ensures { λ r. ⌜ (r ≡ x) × (r < 256) ⌝ }
-{
-    x as usize
-}
-
 // A number from `least` to `most`: 5 if its byte is lacking, 4 if it is beyond its range.
 pub fn within(frames: &[u8], at: usize, end: usize, least: usize, most: usize) -> Field
     requires { ⌜ (at ≤ end) × (end ≤ length (now frames)) ⌝ }
@@ -53,7 +47,7 @@ pub fn within(frames: &[u8], at: usize, end: usize, least: usize, most: usize) -
     if at == end {
         return Field::Fault { number: 5 };
     }
-    let value = wide(frames[at]);
+    let value = layout::wide(frames[at]);
     if value < least {
         return Field::Fault { number: 4 };
     }
@@ -74,7 +68,7 @@ pub fn below(frames: &[u8], at: usize, end: usize, n: usize) -> Field
     if at == end {
         return Field::Fault { number: 5 };
     }
-    let value = wide(frames[at]);
+    let value = layout::wide(frames[at]);
     if value < n {
         Field::Got {
             value,

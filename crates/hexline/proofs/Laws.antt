@@ -16,41 +16,45 @@ use Rattle.words.proofs.Told.{told-yes, told-no}
 use Rattle.text.specs.Lines.{digit, joined, bytesOf, hexOf}
 use Rattle.text.specs.Writing.{AtMost}
 use Rattle.text.proofs.Digits.{digit-digitOf, bytes-hex, bytes-small}
-use Rattle.hexline.specs.SoFar.{Value, Stored, Kept, anyOf, State, whole, waits, strange, Held, Whole, Taken}
+use Rattle.hexline.specs.SoFar.{Value, ByteStored, TreeBytes, anyOf, State, whole, waits, strange, LineHeld, WholeBytes, UpToFeed}
 use Rattle.hexline.specs.declared.SoFar.{SoFar}
 
 -- ---- digits
 
--- The decimal digits and the letters from a to f have their values.
+-- The decimal digits have their values.
 pub value-low : (c : ℕ) → 48 ≤ c → c ≤ 57 → Value c (c - 48)
 unfolding digit
 value-low c h k = inl (omega arith, rw (le-leb 0x30 c h, le-leb c 0x39 k, digit))
 
+-- The letters from a to f have theirs.
 pub value-high : (c : ℕ) → 97 ≤ c → c ≤ 102 → Value c (c - 87)
 unfolding digit
 value-high c h k =
     let e : c - 0x61 + 10 ≡ c - 87 = omega arith in
     inl (omega arith, rw (le-leb 0x30 c (omega arith), lt-leb c 0x39 (omega arith), le-leb 0x61 c h, le-leb c 0x66 k, digit) (ap some e))
 
--- Below them, between them and above them is none.
+-- Below the digits is none.
 pub value-below : (c : ℕ) → c < 48 → Value c 16
 unfolding digit
 value-below c h = inr (refl, rw (lt-leb 0x30 c h, lt-leb 0x61 c (omega arith), digit))
 
+-- Nor between digits and letters.
 pub value-between : (c : ℕ) → 57 < c → c < 97 → Value c 16
 unfolding digit
 value-between c h k = inr (refl, rw (le-leb 0x30 c (omega arith), lt-leb c 0x39 h, lt-leb 0x61 c k, digit))
 
+-- Nor above the letters.
 pub value-above : (c : ℕ) → 102 < c → Value c 16
 unfolding digit
 value-above c h =
     inr (refl, rw (le-leb 0x30 c (omega arith), lt-leb c 0x39 (omega arith), le-leb 0x61 c (omega arith), lt-leb c 0x66 h, digit))
 
--- A value below 16 is a digit's, and any other is none's.
+-- A value below 16 is a digit's.
 value-digit : (c v : ℕ) → Value c v → v ≤ 15 → digit c ≡ some v
 value-digit c v (inl d) h = d .1
 value-digit c v (inr d) h = absurd (omega (arith, d .0))
 
+-- Any other is none's.
 value-none : (c v : ℕ) → Value c v → 15 < v → digit c ≡ none
 value-none c v (inl d) h = absurd (omega (arith, d .0))
 value-none c v (inr d) h = d .1
@@ -81,37 +85,40 @@ hex-append (b ∷ bs) rest o h e =
 bytes-append : (front rest bs : List ℕ) (o : Option (List ℕ)) → bytesOf front ≡ some bs → bytesOf rest ≡ o → bytesOf (front ++ rest) ≡ onto bs o
 bytes-append front rest bs o e f = rw (bytes-hex front bs e) (hex-append bs rest o (bytes-small front bs e) f)
 
--- With one digit behind whole bytes they are no bytes, with two one byte more.
+-- With one digit behind whole bytes they are no bytes.
 bytes-odd : (front bs : List ℕ) (c : ℕ) → bytesOf front ≡ some bs → bytesOf (front ++ c ∷ []) ≡ none
 unfolding bytesOf
 bytes-odd front bs c e = bytes-append front (c ∷ []) bs none e refl
 
+-- With two they are one byte more.
 bytes-byte : (front bs : List ℕ) (x c h l : ℕ) → bytesOf front ≡ some bs → digit x ≡ some h → digit c ≡ some l
     → bytesOf (front ++ x ∷ c ∷ []) ≡ some (bs ++ (h * 16 + l) ∷ [])
 unfolding bytesOf
 bytes-byte front bs x c h l e f g = bytes-append front (x ∷ c ∷ []) bs (some ((h * 16 + l) ∷ [])) e (rw (f, g))
 
--- With another character they are none whatever comes behind it: it stands first or second in a pair.
+-- With another character they are none whatever comes behind it: it stands first in a pair.
 strange-first : (c : ℕ) (more : List ℕ) → digit c ≡ none → bytesOf (c ∷ more) ≡ none
 unfolding bytesOf
 strange-first c [] e = refl
 strange-first c (x ∷ more) e = rw e
 
+-- Or it stands second in a pair.
 strange-second : (x c h : ℕ) (more : List ℕ) → digit x ≡ some h → digit c ≡ none → bytesOf (x ∷ c ∷ more) ≡ none
 unfolding bytesOf
 strange-second x c h more e f = rw (e, f)
 
 -- What is no bytes whatever comes stays so.
-strange-more : (cs : List ℕ) (c : ℕ) → ((more : List ℕ) → bytesOf (cs ++ more) ≡ none) → (more : List ℕ) → bytesOf ((cs ++ c ∷ []) ++ more) ≡ none
+strange-more : (cs : List ℕ) (c : ℕ) → ((more : List ℕ) → bytesOf (cs ++ more) ≡ none) → (more : List ℕ)
+    → bytesOf ((cs ++ c ∷ []) ++ more) ≡ none
 strange-more cs c n more = rw append-assoc (n (c ∷ more))
 
 -- ---- the line so far
 
 -- A byte more, stored where it has a place.
-kept-more : {bs T T′ : List ℕ} {b n r : ℕ} → Kept bs T n → Stored b T n T′ r → Kept (bs ++ b ∷ []) T′ r
+kept-more : {bs T T′ : List ℕ} {b n r : ℕ} → TreeBytes bs T n → ByteStored b T n T′ r → TreeBytes (bs ++ b ∷ []) T′ r
 kept-more {bs} {T} {T′} {b} {n} {r} k s = go (ltb n (length T)) refl
   where
-    go : (t : Bool) → ltb n (length T) ≡ t → Kept (bs ++ b ∷ []) T′ r
+    go : (t : Bool) → ltb n (length T) ≡ t → TreeBytes (bs ++ b ∷ []) T′ r
     go true t =
         let h : n < length T = ltb-true n (length T) t in
         let m : n ≡ length bs = omega (arith, k .many) in
@@ -134,13 +141,13 @@ any-more [] c = refl
 any-more (x ∷ cs) c = refl
 
 -- A line of which nothing has come.
-pub held-none : (T : List ℕ) → Held [] T (record { bytes = 0; half = 16; bad = false; any = false })
+pub held-none : (T : List ℕ) → LineHeld [] T (record { bytes = 0; half = 16; bad = false; any = false })
 unfolding bytesOf
 held-none T = record { any = refl; state = whole [] refl refl refl (record { many = omega arith; front = refl }) }
 
 module _ {cs T : List ℕ} {l : SoFar} where
   -- A line with another character in it is no bytes.
-  pub told-bad : l .bad ≡ true → Held cs T l → Told (Whole cs T (l .bytes)) false
+  pub told-bad : l .bad ≡ true → LineHeld cs T l → Told (WholeBytes cs T (l .bytes)) false
   told-bad e h = told-no (λ w. go (h .state) (w .0) (w .1))
     where
       go : State cs T l → (bs : List ℕ) → bytesOf cs ≡ some bs → ⊥
@@ -149,10 +156,11 @@ module _ {cs T : List ℕ} {l : SoFar} where
       go (strange b n) bs i = let z : _≡_ {A = ℕ} 0 1 = cc (append-nil cs, n []) in omega arith
 
   -- Any other is whole bytes where no digit waits.
-  pub told-half : {r : Bool} → (l .half ≡ 16 → r ≡ true) → (l .half < 16 → r ≡ false) → l .bad ≡ false → Held cs T l → Told (Whole cs T (l .bytes)) r
+  pub told-half : {r : Bool} → (l .half ≡ 16 → r ≡ true) → (l .half < 16 → r ≡ false) → l .bad ≡ false → LineHeld cs T l
+      → Told (WholeBytes cs T (l .bytes)) r
   told-half {r} yes-16 no-16 e h = go (h .state)
     where
-      go : State cs T l → Told (Whole cs T (l .bytes)) r
+      go : State cs T l → Told (WholeBytes cs T (l .bytes)) r
       go (whole bs b f g k) = rw (yes-16 f) (told-yes (bs, g, k))
       go (waits front bs x b f g i j k) =
           rw (no-16 f)
@@ -161,7 +169,7 @@ module _ {cs T : List ℕ} {l : SoFar} where
 
   module _ (c d : ℕ) (v : Value c d) where
     -- Another character comes, and the line says so.
-    pub fed-strange : {r : SoFar} → r .bad ≡ true → r .any ≡ true → 15 < d → Held cs T l → Held (cs ++ c ∷ []) T r
+    pub fed-strange : {r : SoFar} → r .bad ≡ true → r .any ≡ true → 15 < d → LineHeld cs T l → LineHeld (cs ++ c ∷ []) T r
     fed-strange {r} s a i h = record { any = a ∙ any-more cs c; state = strange s (go (h .state)) }
       where
         go : State cs T l → (more : List ℕ) → bytesOf ((cs ++ c ∷ []) ++ more) ≡ none
@@ -172,7 +180,8 @@ module _ {cs T : List ℕ} {l : SoFar} where
         go (strange b n) more = strange-more cs c n more
 
     -- A digit comes where none waits.
-    pub fed-waits : d ≤ 15 → 15 < l .half → Held cs T l → Held (cs ++ c ∷ []) T (record { bytes = l .bytes; half = d; bad = l .bad; any = true })
+    pub fed-waits : d ≤ 15 → 15 < l .half → LineHeld cs T l
+        → LineHeld (cs ++ c ∷ []) T (record { bytes = l .bytes; half = d; bad = l .bad; any = true })
     fed-waits i w h = record { any = any-more cs c; state = go (h .state) }
       where
         go : State cs T l → State (cs ++ c ∷ []) T (record { bytes = l .bytes; half = d; bad = l .bad; any = true })
@@ -181,8 +190,9 @@ module _ {cs T : List ℕ} {l : SoFar} where
         go (strange b n) = strange b (strange-more cs c n)
 
     -- The fellow of a waiting digit comes.
-    pub fed-byte : {T′ : List ℕ} {b r : ℕ} → d ≤ 15 → l .half ≤ 15 → Stored b T (l .bytes) T′ r → b ≡ l .half * 16 + d → Held cs T l
-        → Held (cs ++ c ∷ []) T′ (record { bytes = r; half = 16; bad = l .bad; any = true })
+    pub fed-byte : {T′ : List ℕ} {b r : ℕ} → d ≤ 15 → l .half ≤ 15 → ByteStored b T (l .bytes) T′ r → b ≡ l .half * 16 + d
+        → LineHeld cs T l
+        → LineHeld (cs ++ c ∷ []) T′ (record { bytes = r; half = 16; bad = l .bad; any = true })
     fed-byte {T′} {b} {r} i w s q h = record { any = any-more cs c; state = go (h .state) }
       where
         go : State cs T l → State (cs ++ c ∷ []) T′ (record { bytes = r; half = 16; bad = l .bad; any = true })
@@ -193,22 +203,22 @@ module _ {cs T : List ℕ} {l : SoFar} where
 
 -- ---- the characters of a piece
 
--- The first n characters of a piece are taken: none is a line feed, and whatever the line told of before, it tells of that and of these now.
-pub record Going (P T₀ : List ℕ) (l₀ : SoFar) (T : List ℕ) (l : SoFar) (n : ℕ) : Type 0 where
+-- The first n characters of a piece are taken: none is a line feed, and the line tells of these behind what it told of before.
+pub record FedSoFar (P T₀ : List ℕ) (l₀ : SoFar) (T : List ℕ) (l : SoFar) (n : ℕ) : Type 0 where
   pub inside : n ≤ length P
   pub long : length T ≡ length T₀
   pub before : (k : ℕ) → k < n → getD P k 0 ≡ 0x0a → ⊥
-  pub held : (cs : List ℕ) → Held cs T₀ l₀ → Held (cs ++ take n P) T l
+  pub held : (cs : List ℕ) → LineHeld cs T₀ l₀ → LineHeld (cs ++ take n P) T l
 
 -- None is taken.
-pub going-none : (P T : List ℕ) (l : SoFar) → Going P T l T l 0
-going-none P T l = record { inside = omega arith; long = refl; before = λ k h e. omega arith; held = λ cs h. rw append-nil h }
+pub fed-none : (P T : List ℕ) (l : SoFar) → FedSoFar P T l T l 0
+fed-none P T l = record { inside = omega arith; long = refl; before = λ k h e. omega arith; held = λ cs h. rw append-nil h }
 
-module _ {P T₀ : List ℕ} {l₀ : SoFar} {T : List ℕ} {l : SoFar} {n : ℕ} (g : Going P T₀ l₀ T l n) where
+module _ {P T₀ : List ℕ} {l₀ : SoFar} {T : List ℕ} {l : SoFar} {n : ℕ} (g : FedSoFar P T₀ l₀ T l n) where
   -- One more is taken.
-  pub going-more : {T′ : List ℕ} {l′ : SoFar} → n < length P → length T′ ≡ length T → (getD P n 0 ≡ 0x0a → ⊥)
-      → ((cs : List ℕ) → Held cs T l → Held (cs ++ getD P n 0 ∷ []) T′ l′) → Going P T₀ l₀ T′ l′ (n + 1)
-  going-more {T′} {l′} h e no-feed fed = record {
+  pub fed-more : {T′ : List ℕ} {l′ : SoFar} → n < length P → length T′ ≡ length T → (getD P n 0 ≡ 0x0a → ⊥)
+      → ((cs : List ℕ) → LineHeld cs T l → LineHeld (cs ++ getD P n 0 ∷ []) T′ l′) → FedSoFar P T₀ l₀ T′ l′ (n + 1)
+  fed-more {T′} {l′} h e no-feed fed = record {
     inside = omega arith;
     long = e ∙ g .long;
     before = λ k i. go k i (ltb k n) refl;
@@ -220,18 +230,18 @@ module _ {P T₀ : List ℕ} {l₀ : SoFar} {T : List ℕ} {l : SoFar} {n : ℕ}
       go k i false t = let s : k ≡ n = omega (arith, ltb-false k n t) in rw s no-feed
 
   -- The piece ends there, or a line feed stands there.
-  pub going-taken : (n < length P → getD P n 0 ≡ 0x0a) → Taken P n
-  going-taken e = record { inside = g .inside; before = g .before; end = e }
+  pub fed-taken : (n < length P → getD P n 0 ≡ 0x0a) → UpToFeed P n
+  fed-taken e = record { inside = g .inside; before = g .before; end = e }
 
 -- What was taken of the part of a piece from `at` on ends inside the piece.
-pub taken-inside : (piece : List ℕ) (at n : ℕ) → Taken (take (length piece - at) (drop at piece)) n → at ≤ length piece → at + n ≤ length piece
+pub taken-inside : (piece : List ℕ) (at n : ℕ) → UpToFeed (take (length piece - at) (drop at piece)) n → at ≤ length piece → at + n ≤ length piece
 taken-inside piece at n t h = omega (arith, t .inside, length-take (length piece - at) (drop at piece), length-drop at piece)
 
 -- Characters that are bytes are held in the tree, as many as have a place.
-pub held-bytes : (cs T bs : List ℕ) (l : SoFar) → Held cs T l → bytesOf cs ≡ some bs → Kept bs T (l .bytes)
+pub held-bytes : (cs T bs : List ℕ) (l : SoFar) → LineHeld cs T l → bytesOf cs ≡ some bs → TreeBytes bs T (l .bytes)
 held-bytes cs T bs l h e = go (h .state)
   where
-    go : State cs T l → Kept bs T (l .bytes)
-    go (whole xs b f g k) = subst (λ (ys : List ℕ). Kept ys T (l .bytes)) (Option·some-injective _ _ (sym g ∙ e)) k
+    go : State cs T l → TreeBytes bs T (l .bytes)
+    go (whole xs b f g k) = subst (λ (ys : List ℕ). TreeBytes ys T (l .bytes)) (Option·some-injective _ _ (sym g ∙ e)) k
     go (waits front xs c b f g d i k) = absurd (Option·none-ne-some bs (sym (bytes-odd front xs c i) ∙ ap bytesOf (sym g) ∙ e))
     go (strange b n) = absurd (Option·none-ne-some bs (sym (n []) ∙ ap bytesOf (append-nil cs) ∙ e))

@@ -4,7 +4,7 @@ ghost use mathlib.Core.List.{List, [], _∷_, _++_};
 ghost use Prim.Native.Nat.{ℕ, _*_, _+_, _<_};
 ghost use lib.ListN.{take};
 ghost use Rattle.words.specs.Told.{Told};
-ghost use Rattle.hexline.specs.SoFar.{Value, Stored, Held, Whole, Taken};
+ghost use Rattle.hexline.specs.SoFar.{Value, ByteStored, LineHeld, WholeBytes, UpToFeed};
 
 // What the waiting digit is where none waits.
 pub const NONE: u8 = 16;
@@ -26,7 +26,7 @@ pub struct Fed {
 
 // A line of which nothing has come.
 pub fn start() -> SoFar
-    ensures { λ r. ⌜ ((tree : List ℕ) → Held [] tree r) ⌝ }
+    ensures { λ r. ⌜ ((tree : List ℕ) → LineHeld [] tree r) ⌝ }
 {
     SoFar {
         bytes: 0,
@@ -38,7 +38,7 @@ pub fn start() -> SoFar
 
 // Whether the line is whole bytes in lowercase hexadecimal.
 pub fn is_hex(line: SoFar) -> bool
-    ensures { λ r. ⌜ ((cs tree : List ℕ) → Held cs tree line → Told (Whole cs tree (line .bytes)) r) ⌝ }
+    ensures { λ r. ⌜ ((cs tree : List ℕ) → LineHeld cs tree line → Told (WholeBytes cs tree (line .bytes)) r) ⌝ }
 {
     if line.bad {
         return false;
@@ -73,7 +73,7 @@ fn join(high: u8, low: u8) -> u8
 
 // Stores a byte where the tree has a place for it, and answers how many bytes there are then.
 fn store(b: u8, tree: &mut [u8], bytes: usize) -> usize
-    ensures { λ r. ⌜ Stored b (now (tree .entry)) bytes (now (tree .exit)) r ⌝ }
+    ensures { λ r. ⌜ ByteStored b (now (tree .entry)) bytes (now (tree .exit)) r ⌝ }
 {
     if bytes < tree.len() {
         tree[bytes] = b;
@@ -84,7 +84,7 @@ fn store(b: u8, tree: &mut [u8], bytes: usize) -> usize
 
 // The line with one character more.
 fn feed(line: SoFar, c: u8, tree: &mut [u8]) -> SoFar
-    ensures { λ r. ⌜ ((cs : List ℕ) → Held cs (now (tree .entry)) line → Held (cs ++ c ∷ []) (now (tree .exit)) r) ⌝ }
+    ensures { λ r. ⌜ ((cs : List ℕ) → LineHeld cs (now (tree .entry)) line → LineHeld (cs ++ c ∷ []) (now (tree .exit)) r) ⌝ }
 {
     let d = digit(c);
     let bytes = line.bytes;
@@ -116,8 +116,9 @@ fn feed(line: SoFar, c: u8, tree: &mut [u8]) -> SoFar
 
 // The line with the characters of a piece up to a line feed or the piece's end.
 pub fn feed_all(line: SoFar, piece: &[u8], tree: &mut [u8]) -> Fed
-    ensures { λ r. ⌜ Taken (now (piece .entry)) (r .taken) ⌝ }
-    ensures { λ r. ⌜ ((cs : List ℕ) → Held cs (now (tree .entry)) line → Held (cs ++ take (r .taken) (now (piece .entry))) (now (tree .exit)) (r .line)) ⌝ }
+    ensures { λ r. ⌜ UpToFeed (now (piece .entry)) (r .taken) ⌝ }
+    ensures { λ r. ⌜ ((cs : List ℕ) → LineHeld cs (now (tree .entry)) line
+        → LineHeld (cs ++ take (r .taken) (now (piece .entry))) (now (tree .exit)) (r .line)) ⌝ }
 {
     let mut line = line;
     let mut taken = 0;

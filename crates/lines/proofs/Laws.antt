@@ -7,7 +7,7 @@ use Prim.Native.Nat.{ℕ, suc, _+_, _*_, _/_, _%_}
 use native.Mathlib.Omega.{arith}
 use borrow.Author.Tests.{eqb-true, ne-eqb}
 use lib.Dec.{eqb}
-use lib.ListN.{length, length-append}
+use lib.ListN.{length}
 use Rattle.words.specs.Reply.{Reply, refused}
 use Rattle.machine.specs.Machine.{Table}
 use Rattle.text.specs.Lines.{digit, bytesOf, Lines, behind, line, linesOf, digitOf, hexOf}
@@ -16,14 +16,14 @@ use Rattle.text.specs.Reading.{stepLine, readLines}
 use Rattle.text.specs.Writing.{AtMost}
 use Rattle.text.proofs.Digits.{digit-inv, digit-digitOf, digitOf-feed, length-hex, hex-bytes, bytes-hex, bytes-small}
 use Rattle.text.proofs.Lines.{hex-no-feed, lines-line, line-inv, behind-inv}
-use Rattle.lines.specs.Scan.{Scanned, whole, bad, withByte, either, scan, Put, Kept, Taken}
+use Rattle.lines.specs.Scan.{Scanned, whole, bad, withByte, either, scan, LinePut, FrontKept, LineTaken}
 use Rattle.lines.specs.declared.Line.{Line}
 use Rattle.lines.specs.declared.Line.the-variants.{Whole, Bad}
 
 -- ---- a scanned line is the digits of its bytes
 
 -- What two digits before a line take.
-record Pair (a b : Option ℕ) (s : Scanned) (bs t : List ℕ) : Type 0 where
+record TwoDigits (a b : Option ℕ) (s : Scanned) (bs t : List ℕ) : Type 0 where
   high : ℕ
   low : ℕ
   more : List ℕ
@@ -33,11 +33,12 @@ record Pair (a b : Option ℕ) (s : Scanned) (bs t : List ℕ) : Type 0 where
   bytes : bs ≡ (high * 16 + low) ∷ more
 
 -- A byte in front of a line that is whole comes of two digits and a whole line.
-byte-inv : (a b : Option ℕ) (s : Scanned) (bs t : List ℕ) → withByte a b s ≡ whole bs t → Pair a b s bs t
+byte-inv : (a b : Option ℕ) (s : Scanned) (bs t : List ℕ) → withByte a b s ≡ whole bs t → TwoDigits a b s bs t
 byte-inv none b s bs t e = absurd (let z : _≡_ {A = ℕ} 0 1 = cc in omega arith)
 byte-inv (some h) none s bs t e = absurd (let z : _≡_ {A = ℕ} 0 1 = cc in omega arith)
 byte-inv (some h) (some l) bad bs t e = absurd (let z : _≡_ {A = ℕ} 0 1 = cc in omega arith)
-byte-inv (some h) (some l) (whole cs t′) bs t e = record { high = h; low = l; more = cs; first = refl; second = refl; rest = cc; bytes = cc }
+byte-inv (some h) (some l) (whole cs t′) bs t e =
+    record { high = h; low = l; more = cs; first = refl; second = refl; rest = cc; bytes = cc }
 
 -- A whole line's text, and that its bytes are bytes.
 record Lined (t bs t′ : List ℕ) : Type 0 where
@@ -53,7 +54,8 @@ lined-none c t bs t′ e f =
     record { text = rw (a, b, e); small = rw a tt }
 
 -- Two digits more in front of a line.
-lined-more : (c d h l : ℕ) (t bs cs t′ : List ℕ) → digit c ≡ some h → digit d ≡ some l → bs ≡ (h * 16 + l) ∷ cs → Lined t cs t′ → Lined (c ∷ d ∷ t) bs t′
+lined-more : (c d h l : ℕ) (t bs cs t′ : List ℕ) → digit c ≡ some h → digit d ≡ some l → bs ≡ (h * 16 + l) ∷ cs → Lined t cs t′
+    → Lined (c ∷ d ∷ t) bs t′
 unfolding hexOf
 lined-more c d h l t bs cs t′ e f g r =
     let x = digit-inv c h e in
@@ -73,37 +75,37 @@ scan-lined (c ∷ []) bs t′ e = go (eqb c 0x0a) refl e
     go false f g = absurd (let z : _≡_ {A = ℕ} 0 1 = cc in omega arith)
 scan-lined (c ∷ d ∷ t) bs t′ e = go (eqb c 0x0a) refl (scan-lined t) e
   where
-    go : (b : Bool) → eqb c 0x0a ≡ b → ((cs u : List ℕ) → scan t ≡ whole cs u → Lined t cs u) → either b (whole [] (d ∷ t)) (withByte (digit c) (digit d) (scan t)) ≡ whole bs t′ → Lined (c ∷ d ∷ t) bs t′
+    go : (b : Bool) → eqb c 0x0a ≡ b → ((cs u : List ℕ) → scan t ≡ whole cs u → Lined t cs u)
+        → either b (whole [] (d ∷ t)) (withByte (digit c) (digit d) (scan t)) ≡ whole bs t′ → Lined (c ∷ d ∷ t) bs t′
     go true f ih g = lined-none c (d ∷ t) bs t′ (eqb-true c 0x0a f) g
     go false f ih g =
         let i = byte-inv (digit c) (digit d) (scan t) bs t′ g in
         lined-more c d (i .high) (i .low) t bs (i .more) t′ (i .first) (i .second) (i .bytes) (ih (i .more) t′ (i .rest))
 
 -- The text of a whole line: the digits of its bytes, its 0a, and what is left.
-pub scan-text : (t bs t′ : List ℕ) → scan t ≡ whole bs t′ → t ≡ hexOf bs ++ 0x0a ∷ t′
+scan-text : (t bs t′ : List ℕ) → scan t ≡ whole bs t′ → t ≡ hexOf bs ++ 0x0a ∷ t′
 scan-text t bs t′ e = scan-lined t bs t′ e .text
 
 -- The bytes of a scanned line are bytes.
 pub scan-small : (t bs t′ : List ℕ) → scan t ≡ whole bs t′ → AtMost 255 bs
 scan-small t bs t′ e = scan-lined t bs t′ e .small
 
--- Two digits a byte, and the 0a.
-pub scan-length : (t bs t′ : List ℕ) → scan t ≡ whole bs t′ → length t ≡ 2 * length bs + 1 + length t′
-scan-length t bs t′ e = ap length (scan-text t bs t′ e) ∙ rw (length-append, length-hex) (omega arith)
-
 -- And the other way: digits of bytes and a 0a are scanned as these bytes.
-pub scan-hex : (bs t : List ℕ) → AtMost 255 bs → scan (hexOf bs ++ 0x0a ∷ t) ≡ whole bs t
+scan-hex : (bs t : List ℕ) → AtMost 255 bs → scan (hexOf bs ++ 0x0a ∷ t) ≡ whole bs t
 unfolding scan hexOf
 scan-hex [] [] h = refl
 scan-hex [] (d ∷ t) h = refl
 scan-hex (b ∷ bs) t h =
     let s : b / 16 * 16 + b % 16 ≡ b = omega arith in
-    rw (ne-eqb (digitOf (b / 16)) 0x0a (digitOf-feed (b / 16)), digit-digitOf (b / 16) (omega (arith, h .0)), digit-digitOf (b % 16) (omega arith), scan-hex bs t (h .1), s)
+    let high = digit-digitOf (b / 16) (omega (arith, h .0)) in
+    let low = digit-digitOf (b % 16) (omega arith) in
+    rw (ne-eqb (digitOf (b / 16)) 0x0a (digitOf-feed (b / 16)), high, low, scan-hex bs t (h .1), s)
 
 -- ---- reading
 
 -- What a line makes of the stage decides how reading goes on.
-read-step : (s : Stage) (p : ℕ) (l : List ℕ) (ls : Lines) (o : Step) → stepLine s (bytesOf l) ≡ o → readLines s p (line l ls) ≡ elim o as (λ x. Reply Table) [ next s′ ↦ readLines s′ (p + suc (length l)) ls | wrong n ↦ refused n p ]
+read-step : (s : Stage) (p : ℕ) (l : List ℕ) (ls : Lines) (o : Step) → stepLine s (bytesOf l) ≡ o
+    → readLines s p (line l ls) ≡ elim o as (λ x. Reply Table) [ next s′ ↦ readLines s′ (p + suc (length l)) ls | wrong n ↦ refused n p ]
 unfolding readLines
 read-step s p l ls o e = rw (← e)
 
@@ -122,7 +124,8 @@ read-whole-next s p t bs t′ s′ e f =
     rw (scan-lines t bs t′ e, ← length-hex bs) (read-step s p (hexOf bs) (linesOf t′) (next s′) (step-whole s t bs t′ (next s′) e f))
 
 -- A whole line whose frame is wrong.
-pub read-whole-wrong : (s : Stage) (p : ℕ) (t bs t′ : List ℕ) (n : ℕ) → scan t ≡ whole bs t′ → step s bs ≡ wrong n → readLines s p (linesOf t) ≡ refused n p
+pub read-whole-wrong : (s : Stage) (p : ℕ) (t bs t′ : List ℕ) (n : ℕ) → scan t ≡ whole bs t′ → step s bs ≡ wrong n
+    → readLines s p (linesOf t) ≡ refused n p
 read-whole-wrong s p t bs t′ n e f =
     rw (scan-lines t bs t′ e) (read-step s p (hexOf bs) (linesOf t′) (wrong n) (step-whole s t bs t′ (wrong n) e f))
 
@@ -140,7 +143,8 @@ pub read-bad : (s : Stage) (p : ℕ) (t : List ℕ) → (t ≡ [] → ⊥) → s
 unfolding readLines
 read-bad s p t n e = go (linesOf t) refl
   where
-    bytes : (l : List ℕ) (ls : Lines) → linesOf t ≡ line l ls → (o : Option (List ℕ)) → bytesOf l ≡ o → readLines s p (line l ls) ≡ refused 2 p
+    bytes : (l : List ℕ) (ls : Lines) → linesOf t ≡ line l ls → (o : Option (List ℕ)) → bytesOf l ≡ o
+        → readLines s p (line l ls) ≡ refused 2 p
     bytes l ls f none g = read-step s p l ls (wrong 2) (ap (λ x. stepLine s x) g)
     bytes l ls f (some bs) g = absurd (line-bad t l bs ls f g e)
 
@@ -156,18 +160,20 @@ pub record IsWhole (T : List ℕ) (s : Scanned) (at used n then : ℕ) (F F′ :
   pub bytes : List ℕ
   pub left : List ℕ
   pub scanned : s ≡ whole bytes left
-  pub put : Put T bytes left at used n then F F′
+  pub put : LinePut T bytes left at used n then F F′
 
 -- An answer with a number of bytes says so.
-pub whole-taken : (T : List ℕ) (s : Scanned) (at used n then : ℕ) (F F′ : List ℕ) (r : Line) → r ≡ Whole n then → Taken T s at used F F′ r → IsWhole T s at used n then F F′
+pub whole-taken : (T : List ℕ) (s : Scanned) (at used n then : ℕ) (F F′ : List ℕ) (r : Line) → r ≡ Whole n then → LineTaken T s at used F F′ r
+    → IsWhole T s at used n then F F′
 whole-taken T (whole bs t) at used n then F F′ r e h =
-    let p : Put T bs t at used n then F F′ = rw e at h in
+    let p : LinePut T bs t at used n then F F′ = rw e at h in
     record { bytes = bs; left = t; scanned = refl; put = p }
 whole-taken T bad at used n then F F′ r e h = absurd (let z : ⊥ = rw e at h in z)
 
 -- The other answer says that the line is bad, and that the bytes before `used` are as they were.
-pub bad-taken : (T : List ℕ) (s : Scanned) (at used : ℕ) (F F′ : List ℕ) (r : Line) → r ≡ Bad → Taken T s at used F F′ r → (s ≡ bad) × Kept used F F′
+pub bad-taken : (T : List ℕ) (s : Scanned) (at used : ℕ) (F F′ : List ℕ) (r : Line) → r ≡ Bad → LineTaken T s at used F F′ r
+    → (s ≡ bad) × FrontKept used F F′
 bad-taken T (whole bs t) at used F F′ r e h = absurd (let z : ⊥ = rw e at h in z)
 bad-taken T bad at used F F′ r e h =
-    let k : Kept used F F′ = rw e at h in
+    let k : FrontKept used F F′ = rw e at h in
     (refl, k)

@@ -11,7 +11,7 @@ use borrow.Author.Tests.{eq-eqb, ne-eqb}
 use lib.ListN.{length, getD, take, drop, set, length-append, length-drop, drop-of-length-le, take-append-drop}
 use lib.Seq.{drop-cons, set-at, length-take-le, take-at, append-snoc}
 use Rattle.text.specs.Lines.{digit}
-use Rattle.lines.specs.Scan.{Scanned, whole, bad, withByte, scan, Put, Kept, Closed, Taken}
+use Rattle.lines.specs.Scan.{Scanned, whole, bad, withByte, scan, LinePut, FrontKept, EndedAt, LineTaken}
 use Rattle.lines.specs.declared.Line.{Line}
 use Rattle.lines.specs.declared.Line.the-variants.{Whole, Bad}
 use Rattle.lines.proofs.Values.{digit-feed}
@@ -33,7 +33,8 @@ pub prepended-begin : (T : List ℕ) (at : ℕ) → scan (drop at T) ≡ prepend
 prepended-begin T at = rw add-zero (prepended-none (scan (drop at T)))
 
 -- One byte more goes to the bytes in front.
-pub prepended-byte : (acc : List ℕ) (h l : ℕ) (s : Scanned) → prepended acc (withByte (some h) (some l) s) ≡ prepended (acc ++ (h * 16 + l) ∷ []) s
+prepended-byte : (acc : List ℕ) (h l : ℕ) (s : Scanned)
+    → prepended acc (withByte (some h) (some l) s) ≡ prepended (acc ++ (h * 16 + l) ∷ []) s
 prepended-byte acc h l (whole bs t) = ap (λ x. whole x t) (sym (append-snoc acc (h * 16 + l) bs))
 prepended-byte acc h l bad = refl
 
@@ -43,7 +44,8 @@ unfolding scan
 scan-cons-feed c [] e = rw (eq-eqb c 10 e)
 scan-cons-feed c (d ∷ t) e = rw (eq-eqb c 10 e)
 
-pub scan-feed : (T : List ℕ) (i : ℕ) → i < length T → getD T i 0 ≡ 10 → scan (drop i T) ≡ whole [] (drop (i + 1) T)
+-- It ends so at place i of a text too.
+scan-feed : (T : List ℕ) (i : ℕ) → i < length T → getD T i 0 ≡ 10 → scan (drop i T) ≡ whole [] (drop (i + 1) T)
 scan-feed T i h e = rw (add-one, drop-cons T i 0) (scan-cons-feed (getD T i 0) (drop (suc i) T) e)
 
 -- One character is left at most, and it is no 0a.
@@ -60,7 +62,8 @@ scan-stop T i h f = go (decLt i (length T))
         rw (drop-of-length-le T l)
 
 -- Two characters are left at least, and the first is no 0a: they are digits of a byte.
-pub scan-pair : (T : List ℕ) (i : ℕ) → i + 1 < length T → (getD T i 0 ≡ 10 → ⊥) → scan (drop i T) ≡ withByte (digit (getD T i 0)) (digit (getD T (i + 1) 0)) (scan (drop (i + 2) T))
+scan-pair : (T : List ℕ) (i : ℕ) → i + 1 < length T → (getD T i 0 ≡ 10 → ⊥)
+    → scan (drop i T) ≡ withByte (digit (getD T i 0)) (digit (getD T (i + 1) 0)) (scan (drop (i + 2) T))
 unfolding scan
 scan-pair T i h f =
     let k : i < length T = omega arith in
@@ -69,26 +72,32 @@ scan-pair T i h f =
     rw (m, add-one, drop-cons T i 0 k, drop-cons T (suc i) 0 l, ne-eqb (getD T i 0) 10 f)
 
 -- The first of them is neither a digit nor a 0a.
-pub scan-first : (T : List ℕ) (i : ℕ) → i + 1 < length T → digit (getD T i 0) ≡ none → (i < length T → getD T i 0 ≡ 10 → ⊥) → scan (drop i T) ≡ bad
-scan-first T i h e f = scan-pair T i h (f (omega arith)) ∙ ap (λ o. withByte o (digit (getD T (i + 1) 0)) (scan (drop (i + 2) T))) e
+pub scan-first : (T : List ℕ) (i : ℕ) → i + 1 < length T → digit (getD T i 0) ≡ none → (i < length T → getD T i 0 ≡ 10 → ⊥)
+    → scan (drop i T) ≡ bad
+scan-first T i h e f =
+    scan-pair T i h (f (omega arith)) ∙ ap (λ o. withByte o (digit (getD T (i + 1) 0)) (scan (drop (i + 2) T))) e
 
 -- The first is a digit, the second is none.
-pub scan-second : (T : List ℕ) (i v : ℕ) → i + 1 < length T → digit (getD T i 0) ≡ some v → digit (getD T (i + 1) 0) ≡ none → scan (drop i T) ≡ bad
+pub scan-second : (T : List ℕ) (i v : ℕ) → i + 1 < length T → digit (getD T i 0) ≡ some v → digit (getD T (i + 1) 0) ≡ none
+    → scan (drop i T) ≡ bad
 scan-second T i v h e f = scan-pair T i h (digit-feed (getD T i 0) v e) ∙ rw (e, f)
 
 -- ---- what the answer says
 
--- The answer to a whole line, and to a bad one.
-pub taken-whole : (T : List ℕ) (s : Scanned) (bs t : List ℕ) (at used n then : ℕ) (F F′ : List ℕ) → s ≡ whole bs t → Put T bs t at used n then F F′ → Taken T s at used F F′ (Whole n then)
+-- The answer to a whole line.
+taken-whole : (T : List ℕ) (s : Scanned) (bs t : List ℕ) (at used n then : ℕ) (F F′ : List ℕ) → s ≡ whole bs t
+    → LinePut T bs t at used n then F F′ → LineTaken T s at used F F′ (Whole n then)
 taken-whole T s bs t at used n then F F′ e p = rw e p
 
-pub taken-bad : (T : List ℕ) (s : Scanned) (at used : ℕ) (F F′ : List ℕ) → s ≡ bad → Kept used F F′ → Taken T s at used F F′ Bad
+-- The answer to a bad line.
+taken-bad : (T : List ℕ) (s : Scanned) (at used : ℕ) (F F′ : List ℕ) → s ≡ bad → FrontKept used F F′
+    → LineTaken T s at used F F′ Bad
 taken-bad T s at used F F′ e k = rw e k
 
 -- ---- bytes F that were F₀ and have acc from `used` on
 
--- The bytes of the text before i are decoded: they are acc, behind the bytes before `used`, and the line is acc and what the text from i on gives.
-pub record Decoded (T F₀ F : List ℕ) (at used i n : ℕ) : Type 0 where
+-- The text before i is decoded: its bytes acc stand behind the first `used` bytes, and the line is acc and what the text from i on gives.
+pub record DecodedUpTo (T F₀ F : List ℕ) (at used i n : ℕ) : Type 0 where
   pub acc : List ℕ
   pub long : length acc ≡ n
   pub place : i ≡ at + 2 * n
@@ -101,58 +110,67 @@ pub filled-none : (F : List ℕ) (used : ℕ) → F ≡ take used F ++ [] ++ dro
 filled-none F used = rw (append-nil, add-zero, take-append-drop)
 
 -- How many bytes there are does not change.
-filled-length : (F₀ acc : List ℕ) (used n : ℕ) → length acc ≡ n → used + n ≤ length F₀ → length (take used F₀ ++ acc ++ drop (used + n) F₀) ≡ length F₀
+filled-length : (F₀ acc : List ℕ) (used n : ℕ) → length acc ≡ n → used + n ≤ length F₀
+    → length (take used F₀ ++ acc ++ drop (used + n) F₀) ≡ length F₀
 filled-length F₀ acc used n e h =
     let k : used ≤ length F₀ = omega arith in
     simp (length-append, length-take-le used F₀ k, length-drop) (omega arith)
 
 -- The bytes before `used` are as they were.
-filled-front : (F₀ acc : List ℕ) (used n : ℕ) → length acc ≡ n → used + n ≤ length F₀ → take used (take used F₀ ++ acc ++ drop (used + n) F₀) ≡ take used F₀
+filled-front : (F₀ acc : List ℕ) (used n : ℕ) → length acc ≡ n → used + n ≤ length F₀
+    → take used (take used F₀ ++ acc ++ drop (used + n) F₀) ≡ take used F₀
 filled-front F₀ acc used n e h =
     let k : used ≤ length F₀ = omega arith in
     rw append-assoc (take-at (take used F₀) (acc ++ drop (used + n) F₀) used (length-take-le used F₀ k))
 
 -- One byte more behind acc.
-filled-more : (F₀ acc : List ℕ) (used n b : ℕ) → length acc ≡ n → used + n < length F₀ → set (take used F₀ ++ acc ++ drop (used + n) F₀) (used + n) b ≡ take used F₀ ++ (acc ++ b ∷ []) ++ drop (used + (n + 1)) F₀
+filled-more : (F₀ acc : List ℕ) (used n b : ℕ) → length acc ≡ n → used + n < length F₀
+    → set (take used F₀ ++ acc ++ drop (used + n) F₀) (used + n) b ≡ take used F₀ ++ (acc ++ b ∷ []) ++ drop (used + (n + 1)) F₀
 filled-more F₀ acc used n b e h =
     let k : used ≤ length F₀ = omega arith in
     let l : length (take used F₀ ++ acc) ≡ used + n = simp (length-append, length-take-le used F₀ k) (omega arith) in
     let m : used + (n + 1) ≡ suc (used + n) = omega arith in
-    rw (m, drop-cons F₀ (used + n) 0 h, set-at (take used F₀ ++ acc) (getD F₀ (used + n) 0) (drop (suc (used + n)) F₀) b (used + n) l, ← append-assoc, append-snoc)
+    let here = set-at (take used F₀ ++ acc) (getD F₀ (used + n) 0) (drop (suc (used + n)) F₀) b (used + n) l in
+    rw (m, drop-cons F₀ (used + n) 0 h, here, ← append-assoc, append-snoc)
 
-module _ {T F₀ F : List ℕ} {at used i n : ℕ} (room : 2 * used ≤ at) (text : length T ≤ 32768) (frames : 16384 ≤ length F₀) (d : Decoded T F₀ F at used i n) where
+module _ {T F₀ F : List ℕ} {at used i n : ℕ} (room : 2 * used ≤ at) (text : length T ≤ 32768) (frames : 16384 ≤ length F₀)
+    (d : DecodedUpTo T F₀ F at used i n) where
   -- There is room for what is decoded.
   pub decoded-room : used + n ≤ length F₀
   decoded-room = omega (arith, d .place, d .inside)
 
   -- The bytes before `used` are as they were.
-  pub decoded-kept : Kept used F₀ F
+  pub decoded-kept : FrontKept used F₀ F
   decoded-kept = record {
     long = ap length (d .bytes) ∙ filled-length F₀ (d .acc) used n (d .long) decoded-room;
     front = ap (λ x. take used x) (d .bytes) ∙ filled-front F₀ (d .acc) used n (d .long) decoded-room;
   }
 
   -- The line has ended.
-  pub decoded-whole : i < length T → getD T i 0 ≡ 10 → Taken T (scan (drop at T)) at used F₀ F (Whole n (i + 1))
+  pub decoded-whole : i < length T → getD T i 0 ≡ 10 → LineTaken T (scan (drop at T)) at used F₀ F (Whole n (i + 1))
   decoded-whole h e =
-      let s : scan (drop at T) ≡ whole (d .acc) (drop (i + 1) T) = d .rest ∙ ap (prepended (d .acc)) (scan-feed T i h e) ∙ ap (λ x. whole x (drop (i + 1) T)) (append-nil (d .acc)) in
+      let s : scan (drop at T) ≡ whole (d .acc) (drop (i + 1) T) =
+      d .rest ∙ ap (prepended (d .acc)) (scan-feed T i h e) ∙ ap (λ x. whole x (drop (i + 1) T)) (append-nil (d .acc)) in
       taken-whole T (scan (drop at T)) (d .acc) (drop (i + 1) T) at used n (i + 1) F₀ F s
       (record { bytes = sym (d .long); next = omega (arith, d .place); inside = omega arith; rest = refl; put = d .bytes })
 
   -- The line is bad from i on.
-  pub decoded-bad : scan (drop i T) ≡ bad → Taken T (scan (drop at T)) at used F₀ F Bad
+  pub decoded-bad : scan (drop i T) ≡ bad → LineTaken T (scan (drop at T)) at used F₀ F Bad
   decoded-bad e = taken-bad T (scan (drop at T)) at used F₀ F (d .rest ∙ ap (prepended (d .acc)) e) decoded-kept
 
   -- The line has ended, or it is bad from i on.
-  pub decoded-closed : ((i < length T → getD T i 0 ≡ 10 → ⊥) → scan (drop i T) ≡ bad) → (r : Line) → Closed T i n r → Taken T (scan (drop at T)) at used F₀ F r
-  decoded-closed other (Whole m next) (e, f, h, g) = rw (e, f) (decoded-whole h g)
-  decoded-closed other Bad g = decoded-bad (other g)
+  pub decoded-ended : ((i < length T → getD T i 0 ≡ 10 → ⊥) → scan (drop i T) ≡ bad) → (r : Line) → EndedAt T i n r
+      → LineTaken T (scan (drop at T)) at used F₀ F r
+  decoded-ended other (Whole m next) (e, f, h, g) = rw (e, f) (decoded-whole h g)
+  decoded-ended other Bad g = decoded-bad (other g)
 
   -- One byte more, and the place behind its digits.
-  pub decoded-more : (j h l : ℕ) → j ≡ i + 2 → i + 1 < length T → digit (getD T i 0) ≡ some h → digit (getD T (i + 1) 0) ≡ some l
-      → Decoded T F₀ (set F (used + n) (h * 16 + l)) at used j (n + 1)
+  pub decoded-more : (j h l : ℕ) → j ≡ i + 2 → i + 1 < length T → digit (getD T i 0) ≡ some h
+      → digit (getD T (i + 1) 0) ≡ some l
+      → DecodedUpTo T F₀ (set F (used + n) (h * 16 + l)) at used j (n + 1)
   decoded-more j h l e k a b =
-      let s : scan (drop i T) ≡ withByte (some h) (some l) (scan (drop (i + 2) T)) = rw (a, b) at (scan-pair T i k (digit-feed (getD T i 0) h a)) in
+      let s : scan (drop i T) ≡ withByte (some h) (some l) (scan (drop (i + 2) T)) =
+      rw (a, b) at (scan-pair T i k (digit-feed (getD T i 0) h a)) in
       record {
         acc = d .acc ++ (h * 16 + l) ∷ [];
         long = rw length-append (omega (arith, d .long));

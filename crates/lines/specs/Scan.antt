@@ -43,7 +43,7 @@ pub record Valued (vs : List ℕ) : Type 0 where
   pub value : (c : ℕ) → c < 256 → getD vs c 0 ≡ valueOr16 (digit c)
 
 -- A whole line from `at` on, put into the bytes F from `used` on: how many bytes, and where the next line starts.
-pub record Put (T bs t : List ℕ) (at used n then : ℕ) (F F′ : List ℕ) : Type 0 where
+pub record LinePut (T bs t : List ℕ) (at used n then : ℕ) (F F′ : List ℕ) : Type 0 where
   pub bytes : n ≡ length bs
   pub next : then ≡ at + 2 * n + 1
   pub inside : then ≤ length T
@@ -51,18 +51,18 @@ pub record Put (T bs t : List ℕ) (at used n then : ℕ) (F F′ : List ℕ) : 
   pub put : F′ ≡ take used F ++ bs ++ drop (used + n) F
 
 -- Where the line is bad, the bytes before `used` are as they were.
-pub record Kept (used : ℕ) (F F′ : List ℕ) : Type 0 where
+pub record FrontKept (used : ℕ) (F F′ : List ℕ) : Type 0 where
   pub long : length F′ ≡ length F
   pub front : take used F′ ≡ take used F
 
 -- Whether the line ends at i: its 0a stands there, and the line has n bytes; or it does not.
-abbrev pub Closed : List ℕ → ℕ → ℕ → Line → Type 0
-Closed T i n (Whole m next) = (m ≡ n) × (next ≡ i + 1) × (i < length T) × (getD T i 0 ≡ 10)
-Closed T i n Bad = i < length T → getD T i 0 ≡ 10 → ⊥
+abbrev pub EndedAt : List ℕ → ℕ → ℕ → Line → Type 0
+EndedAt T i n (Whole m next) = (m ≡ n) × (next ≡ i + 1) × (i < length T) × (getD T i 0 ≡ 10)
+EndedAt T i n Bad = i < length T → getD T i 0 ≡ 10 → ⊥
 
 -- What taking a line answers, and what it does to the bytes.
-abbrev pub Taken : List ℕ → Scanned → ℕ → ℕ → List ℕ → List ℕ → Line → Type 0
-Taken T (whole bs t) at used F F′ (Whole n next) = Put T bs t at used n next F F′
-Taken T (whole bs t) at used F F′ Bad = ⊥
-Taken T bad at used F F′ (Whole n next) = ⊥
-Taken T bad at used F F′ Bad = Kept used F F′
+abbrev pub LineTaken : List ℕ → Scanned → ℕ → ℕ → List ℕ → List ℕ → Line → Type 0
+LineTaken T (whole bs t) at used F F′ (Whole n next) = LinePut T bs t at used n next F F′
+LineTaken T (whole bs t) at used F F′ Bad = ⊥
+LineTaken T bad at used F F′ (Whole n next) = ⊥
+LineTaken T bad at used F F′ Bad = FrontKept used F F′

@@ -3,7 +3,7 @@ ghost use mathlib.Core.Path.{_≡_};
 ghost use Prim.Native.Nat.{_+_, _*_, _<_, _≤_};
 ghost use lib.ListN.{length, drop};
 ghost use Rattle.text.specs.Limits.{textMost};
-ghost use Rattle.lines.specs.Scan.{scan, Valued, Closed, Taken};
+ghost use Rattle.lines.specs.Scan.{scan, Valued, EndedAt, LineTaken};
 
 // A line's number of bytes and where the next line starts; or a line that is no bytes.
 pub enum Line {
@@ -38,7 +38,7 @@ fn digit_values() -> [u8; 256]
 
 // The line that ends at i with n bytes, where its 0a stands there.
 fn ended(text: &[u8], i: usize, n: usize) -> Line
-    ensures { λ r. ⌜ Closed (now (text .entry)) i n r ⌝ }
+    ensures { λ r. ⌜ EndedAt (now (text .entry)) i n r ⌝ }
 {
     if i < text.len() {
         if text[i] == 10 {
@@ -55,7 +55,7 @@ fn ended(text: &[u8], i: usize, n: usize) -> Line
 pub fn take_line(text: &[u8], at: usize, frames: &mut [u8], used: usize) -> Line
     requires { ⌜ (at ≤ length (now text)) × (length (now text) ≤ textMost) ⌝ }
     requires { ⌜ (2 * used ≤ at) × (16384 ≤ length (now frames)) ⌝ }
-    ensures { λ r. ⌜ Taken (now (text .entry)) (scan (drop at (now (text .entry)))) at used (now (frames .entry)) (now (frames .exit)) r ⌝ }
+    ensures { λ r. ⌜ LineTaken (now (text .entry)) (scan (drop at (now (text .entry)))) at used (now (frames .entry)) (now (frames .exit)) r ⌝ }
 {
     let values = digit_values();
     let pairs = (text.len() - at) / 2;

@@ -16,11 +16,12 @@ use Rattle.output.specs.Decimal.{places, decimal}
 ten-times : (j : ℕ) → 10 ^ suc j ≡ 10 ^ j * 10
 ten-times j = pow-suc 10 j
 
+-- One less than the next number.
 sub-one : (j : ℕ) → suc j - 1 ≡ j
 sub-one j = omega arith
 
 -- The fewest digits that hold n are as many as it has places.
-pub fewest-places : (most n k : ℕ) → n ≤ most → Fewest 10 1 n k → k ≡ places most n
+fewest-places : (most n k : ℕ) → n ≤ most → Fewest 10 1 n k → k ≡ places most n
 unfolding places
 fewest-places zero n zero h f = absurd (none f)
   where
@@ -33,7 +34,8 @@ fewest-places zero n (suc (suc j)) h f = absurd (few f)
     few g = let low : 10 ^ suc j ≤ n = simp sub-one at (g .2 (omega arith)) in omega (arith, ten-times j, one-le-pow j 10 (omega arith))
 fewest-places (suc most) n k h f = go (ltb n 10) refl k f (λ j i g. fewest-places most (n / 10) j i g)
   where
-    go : (b : Bool) → ltb n 10 ≡ b → (k : ℕ) → Fewest 10 1 n k → ((j : ℕ) → n / 10 ≤ most → Fewest 10 1 (n / 10) j → j ≡ places most (n / 10))
+    go : (b : Bool) → ltb n 10 ≡ b → (k : ℕ) → Fewest 10 1 n k
+        → ((j : ℕ) → n / 10 ≤ most → Fewest 10 1 (n / 10) j → j ≡ places most (n / 10))
         → k ≡ elim b as (λ x. ℕ) [ true ↦ 1 | false ↦ suc (places most (n / 10)) ]
     go b e zero g rest = absurd (omega (arith, g .0))
     go true e (suc zero) g rest = refl

@@ -31,6 +31,7 @@ two-set p rest y z a b n e =
     ap (λ (l : List ℕ). set l (n + 1) b) (set-at p y (z ∷ rest) a n e ∙ sym (append-snoc p a (z ∷ rest))) ∙ set-at (p ++ a ∷ []) z rest b (n + 1) f
     ∙ append-snoc p a (b ∷ rest)
 
+-- Then the digits of the first i + 1 bytes stand at the front.
 pub hex-stored : (bytes P P₀ : List ℕ) (i a b : ℕ) → P ≡ hexOf (take i bytes) ++ drop (i * 2) P₀ → a ≡ digitOf (getD bytes i 0 / 16)
     → b ≡ digitOf (getD bytes i 0 % 16) → i < length bytes → i * 2 + 2 ≤ length P₀
     → set (set P (i * 2) a) (i * 2 + 1) b ≡ hexOf (take (i + 1) bytes) ++ drop ((i + 1) * 2) P₀
@@ -43,7 +44,8 @@ hex-stored bytes P P₀ i a b e ea eb h k =
     ∙ rw (hex-next bytes i h, append-assoc, ea, eb, n)
 
 -- Digits that were put behind the first `to` bytes: where nothing was written before, or where all that waited was.
-pub hex-piece : (B O P′ : List ℕ) (at to n : ℕ) → TwoPlaces O at to → to < length O → length O ≤ stopped → Spelt B (drop to O) P′ n → (n ≡ 0 → ⊥)
+hex-piece : (B O P′ : List ℕ) (at to n : ℕ) → TwoPlaces O at to → to < length O → length O ≤ stopped → Spelt B (drop to O) P′ n
+    → (n ≡ 0 → ⊥)
     → Queued (hexOf (take n B)) O at (take to O ++ P′) (to + n * 2)
 hex-piece B O P′ at to n t h k s z =
     let few : n ≤ length B = omega (arith, s .many) in
@@ -54,10 +56,13 @@ hex-piece B O P′ at to n t h k s z =
     record {
       kept = length-append (take to O) P′ ∙ (omega arith);
       fits = λ i. ⊎-elim (λ e. omega (arith, e .0)) (λ e. absurd (full i hl (e .0))) t;
-      row = λ i. ⊎-elim (λ e. (omega (arith, e .0), ([], put (front) hl ∙ ap (λ (j : ℕ). take j O ++ hexOf (take n B)) (e .0)))) (λ e. written hl front (e .1)) t;
+      row = λ i.
+          ⊎-elim (λ e. (omega (arith, e .0), ([], put front hl ∙ ap (λ (j : ℕ). take j O ++ hexOf (take n B)) (e .0))))
+          (λ e. written hl front (e .1)) t;
     }
   where
-    counted : n * 2 + to ≤ length O → length (hexOf (take n B)) ≡ n * 2 → length (hexOf (take n B)) + length (drop (n * 2) (drop to O)) ≡ length O - to
+    counted : n * 2 + to ≤ length O → length (hexOf (take n B)) ≡ n * 2
+        → length (hexOf (take n B)) + length (drop (n * 2) (drop to O)) ≡ length O - to
     counted two e = simp length-drop (omega arith)
 
     full : at + length (hexOf (take n B)) ≤ length O → length (hexOf (take n B)) ≡ n * 2 → length O < at + 2 → ⊥
@@ -97,7 +102,8 @@ pub hex-more : (bytes : List ℕ) (i n : ℕ) → hexOf (take i bytes) ++ hexOf 
 hex-more bytes i n = sym (hex-append (take i bytes) (take n (drop i bytes))) ∙ ap hexOf (sym (take-add i n bytes))
 
 -- Less than two places were left where the waiting bytes ended, or where they were written: not all digits fit.
-pub hex-failed : (bytes O₀ O O′ : List ℕ) (i u at to : ℕ) → Queued (hexOf (take i bytes)) O₀ u O at → TwoPlaces O at to → length O′ ≡ length O₀
+pub hex-failed : (bytes O₀ O O′ : List ℕ) (i u at to : ℕ) → Queued (hexOf (take i bytes)) O₀ u O at → TwoPlaces O at to
+    → length O′ ≡ length O₀
     → i < length bytes → length O < to + 2 → Queued (hexOf bytes) O₀ u O′ stopped
 hex-failed bytes O₀ O O′ i u at to q t e h k = queued-failed (hexOf bytes) O₀ O′ u e over
   where
@@ -106,7 +112,8 @@ hex-failed bytes O₀ O O′ i u at to q t e h k = queued-failed (hexOf bytes) O
         let all = length-hex bytes in
         let some = front-digits bytes i (omega arith) in
         let here : at ≡ u + length (hexOf (take i bytes)) = q .fits (omega arith) in
-        ⊎-elim (λ (d : (to ≡ at) × (at + 2 ≤ length O)). omega (arith, d .0, d .1)) (λ (d : (length O < at + 2) × Flushed O at to). omega (arith, d .0, q .kept)) t
+        ⊎-elim (λ (d : (to ≡ at) × (at + 2 ≤ length O)). omega (arith, d .0, d .1))
+        (λ (d : (length O < at + 2) × Flushed O at to). omega (arith, d .0, q .kept)) t
 
 -- Of bytes that are left none was spelt: less than two places were there.
 pub hex-none : (bytes O P′ : List ℕ) (i to n : ℕ) → Spelt (take (length bytes - i) (drop i bytes)) (take (length O - to) (drop to O)) P′ n → n ≡ 0
@@ -115,5 +122,6 @@ hex-none bytes O P′ i to n s z h =
     omega (arith, s .many, length-take (length bytes - i) (drop i bytes), length-drop i bytes, length-take (length O - to) (drop to O), length-drop to O)
 
 -- No more bytes are spelt than are left.
-pub hex-few : (bytes P P′ : List ℕ) (i n : ℕ) → Spelt (take (length bytes - i) (drop i bytes)) P P′ n → i ≤ length bytes → i + n ≤ length bytes
+pub hex-few : (bytes P P′ : List ℕ) (i n : ℕ) → Spelt (take (length bytes - i) (drop i bytes)) P P′ n → i ≤ length bytes
+    → i + n ≤ length bytes
 hex-few bytes P P′ i n s h = omega (arith, s .many, length-take (length bytes - i) (drop i bytes), length-drop i bytes)

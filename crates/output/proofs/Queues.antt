@@ -74,7 +74,8 @@ pub queued-next : (bytes : List ℕ) (i : ℕ) {O O₁ O₂ : List ℕ} {u m r :
 queued-next bytes i a b h = rw (add-one, take-suc bytes i 0) (queued-then a b)
 
 -- All bytes, where none is left.
-pub queued-all : (bytes : List ℕ) (i : ℕ) {O O₁ : List ℕ} {u m : ℕ} → Queued (take i bytes) O u O₁ m → length bytes ≤ i → Queued bytes O u O₁ m
+pub queued-all : (bytes : List ℕ) (i : ℕ) {O O₁ : List ℕ} {u m : ℕ} → Queued (take i bytes) O u O₁ m → length bytes ≤ i
+    → Queued bytes O u O₁ m
 queued-all bytes i a h = rw (take-all i bytes) at a
 
 -- A text that does not fit, where a write has failed.

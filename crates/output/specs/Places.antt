@@ -12,6 +12,7 @@ pub record Spelt (bytes P P′ : List ℕ) (n : ℕ) : Type 0 where
   pub many : n ≡ min (length bytes) (length P / 2)
   pub digits : P′ ≡ hexOf (take n bytes) ++ drop (n * 2) P
 
--- Two places are left behind `used` and nothing was written; or less than two were left, and the waiting bytes were written or a write has failed.
+-- Two places are left behind `used` and nothing was written; or less than two were left, and the waiting bytes were written
+-- or a write has failed.
 abbrev pub TwoPlaces : List ℕ → ℕ → ℕ → Type 0
 TwoPlaces O used r = ((r ≡ used) × (used + 2 ≤ length O)) ⊎ ((length O < used + 2) × Flushed O used r)

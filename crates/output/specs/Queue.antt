@@ -9,8 +9,8 @@ use lib.ListN.{length, take}
 abbrev pub stopped : ℕ
 stopped = 18446744073709551615
 
--- A text t was put behind the first `used` bytes of O: then r bytes of O′ wait. Where t fits, nothing was written. Unless a write has failed, what was
--- written and what waits, in a row, are what waited before and t.
+-- A text t was put behind the first `used` bytes of O: then r bytes of O′ wait. Where t fits, nothing was written.
+-- Unless a write has failed, what was written and what waits, in a row, are what waited before and t.
 pub record Queued (t O : List ℕ) (used : ℕ) (O′ : List ℕ) (r : ℕ) : Type 0 where
   pub kept : length O′ ≡ length O
   pub fits : used + length t ≤ length O → r ≡ used + length t

@@ -1,20 +1,11 @@
 // Bytes in lowercase hexadecimal, put into the buffer as many at a time as it has places for.
 use crate::buffer::STOPPED;
 use crate::buffer::flush;
-ghost use Prim.Native.Nat.{_<_, min};
+ghost use Prim.Native.Nat.{min};
 ghost use mathlib.Core.Path.{_≡_};
-ghost use lib.ListN.{length};
-ghost use Rattle.text.specs.Lines.{digitOf, hexOf};
+ghost use Rattle.text.specs.Lines.{hexOf};
 ghost use Rattle.output.specs.Queue.{Queued};
 ghost use Rattle.output.specs.Places.{Spelt, TwoPlaces};
-
-// The lowercase hexadecimal digit of a value below 16.
-fn glyph(d: u8) -> u8
-    requires { ⌜ d < 16 ⌝ }
-    ensures { λ r. ⌜ r ≡ digitOf d ⌝ }
-{
-    if d < 10 { 48 + d } else { 87 + d }
-}
 
 // The lesser of two numbers.
 fn least(a: usize, b: usize) -> usize
@@ -33,8 +24,8 @@ fn spell(bytes: &[u8], places: &mut [u8]) -> usize
     while i < n {
         let b = bytes[i];
         let to = i * 2;
-        places[to] = glyph(b / 16);
-        places[to + 1] = glyph(b % 16);
+        places[to] = digits::digit(b / 16);
+        places[to + 1] = digits::digit(b % 16);
         i += 1;
     }
     n

@@ -5,7 +5,7 @@ ghost use mathlib.Core.Path.{_≡_};
 ghost use Prim.Native.Nat.{_*_, _≤_};
 ghost use lib.ListN.{length, drop};
 ghost use Rattle.text.specs.Limits.{textMost};
-ghost use Rattle.lines.specs.Scan.{scan, Taken};
+ghost use Rattle.lines.specs.Scan.{scan, LineTaken};
 ghost use Rattle.reader.specs.Ahead.{ahead};
 
 // A table text and the place in it where the next line starts.
@@ -25,7 +25,7 @@ fn new<'a>(text: &'a [u8], at: usize) -> Reader<'a>
 fn next<'a, 'b>(r: Reader<'a>, frames: &'b mut [u8], used: usize) -> Line
     requires { ⌜ (r .at ≤ length (now (r .text))) × (length (now (r .text)) ≤ textMost) ⌝ }
     requires { ⌜ (2 * used ≤ r .at) × (16384 ≤ length (now frames)) ⌝ }
-    ensures { λ l. ⌜ Taken (now (r .entry .text)) (scan (ahead (r .entry))) (r .entry .at) used (now (frames .entry)) (now (frames .exit)) l ⌝ }
+    ensures { λ l. ⌜ LineTaken (now (r .entry .text)) (scan (ahead (r .entry))) (r .entry .at) used (now (frames .entry)) (now (frames .exit)) l ⌝ }
 {
     lines::take_line(r.text, r.at, frames, used)
 }
@@ -34,7 +34,7 @@ fn next<'a, 'b>(r: Reader<'a>, frames: &'b mut [u8], used: usize) -> Line
 pub fn next_line(text: &[u8], at: usize, frames: &mut [u8], used: usize) -> Line
     requires { ⌜ (at ≤ length (now text)) × (length (now text) ≤ textMost) ⌝ }
     requires { ⌜ (2 * used ≤ at) × (16384 ≤ length (now frames)) ⌝ }
-    ensures { λ l. ⌜ Taken (now (text .entry)) (scan (drop at (now (text .entry)))) at used (now (frames .entry)) (now (frames .exit)) l ⌝ }
+    ensures { λ l. ⌜ LineTaken (now (text .entry)) (scan (drop at (now (text .entry)))) at used (now (frames .entry)) (now (frames .exit)) l ⌝ }
 {
     next(new(text, at), frames, used)
 }

@@ -26,12 +26,12 @@ use Rattle.why_no_word.specs.declared.Letters.{Letters}
 use Rattle.table.specs.Opening.{Opens}
 use Rattle.table.specs.declared.Opening.{Opening}
 use Rattle.table.specs.declared.Opening.the-variants as opening
-use Rattle.hexline.specs.SoFar.{Held, Whole, Kept}
+use Rattle.hexline.specs.SoFar.{LineHeld, WholeBytes, TreeBytes}
 use Rattle.hexline.specs.declared.SoFar.{SoFar}
 use Rattle.hexline.proofs.Laws.{held-bytes}
 use Rattle.output.specs.Queue.{Queued}
 use Rattle.answers.specs.Lines.{wordLine, noLine}
-use Rattle.respond.specs.Response.{answerLine, countedAt, Responds, notHex, Strange, Answered}
+use Rattle.respond.specs.Response.{answerLine, countedAt, Responds, notHex, Strange, Answered, lineAnswer}
 use Rattle.respond.specs.declared.Said.{Said}
 
 -- A word that was found: its line is that of its letters in the room.
@@ -46,14 +46,16 @@ word-responds (given w) R R′ O O′ v f l u k i h d q =
 word-responds (refusal x) R R′ O O′ v f l u k i h d q = absurd (given-refused _ (x .number) (x .place) (sym (ap said i) ∙ h .answer))
 
 -- A refusal of the word call.
-pub refusal-responds : (a : Reply Word) (R R′ O O′ : List ℕ) (f : WordAnswer) (e : No) (u : ℕ) (r : Said) → f ≡ found.Refused e → Answers a R R′ f
+pub refusal-responds : (a : Reply Word) (R R′ O O′ : List ℕ) (f : WordAnswer) (e : No) (u : ℕ) (r : Said) → f ≡ found.Refused e
+    → Answers a R R′ f
     → Responds (refusal e) O u O′ r → Responds a O u O′ r
 refusal-responds (given w) R R′ O O′ f e u r i h q = absurd (given-refused _ (e .number) (e .place) (sym (h .answer) ∙ ap said i))
 refusal-responds (refusal x) R R′ O O′ f e u r i h q =
     subst (λ (y : No). Responds (refusal y) O u O′ r) (refusal-injective _ _ (sym (ap said i) ∙ h .answer)) q
 
 -- Bytes that are no line of hexadecimal.
-pub strange-answered : (cs T O O′ : List ℕ) (t : Reply Table) (l : SoFar) (b : Bool) (room u k : ℕ) → Held cs T l → Told (Whole cs T (l .bytes)) b → b ≡ false
+pub strange-answered : (cs T O O′ : List ℕ) (t : Reply Table) (l : SoFar) (b : Bool) (room u k : ℕ) → LineHeld cs T l
+    → Told (WholeBytes cs T (l .bytes)) b → b ≡ false
     → Queued notHex O u O′ k → Answered t (bytesOf cs) room O u O′ (record { used = k; counted = 20 })
 strange-answered cs T O O′ t l b room u k h told e q = go (bytesOf cs) refl
   where
@@ -66,12 +68,14 @@ six : (M : Table) (xs : List ℕ) (room : ℕ) → treeMost < length xs → word
 unfolding wordInto wordOn readTree
 six M xs room h = rw (lt-ltb treeMost (length xs) h) (go (eqb (length xs) 0))
   where
-    go : (b : Bool) → (refuse-if (b || true) 6 0 (treeAt depthMost (M .arities) 0 xs then alone) then wordIn M then λ out. refuse-if (ltb room (length out)) 12 (length out) (given out)) ≡ refused 6 0
+    go : (b : Bool)
+        → (refuse-if (b || true) 6 0 (treeAt depthMost (M .arities) 0 xs then alone) then wordIn M then λ out.
+        refuse-if (ltb room (length out)) 12 (length out) (given out)) ≡ refused 6 0
     go true = refl
     go false = refl
 
 -- The tree's bytes that have a place get the answer of all of them.
-kept-word : (M : Table) (bs T : List ℕ) (n room : ℕ) → Kept bs T n → treeMost < length T → wordInto M (take n T) room ≡ wordInto M bs room
+kept-word : (M : Table) (bs T : List ℕ) (n room : ℕ) → TreeBytes bs T n → treeMost < length T → wordInto M (take n T) room ≡ wordInto M bs room
 kept-word M bs T n room k h = go (ltb (length T) (length bs)) refl
   where
     go : (b : Bool) → ltb (length T) (length bs) ≡ b → wordInto M (take n T) room ≡ wordInto M bs room
@@ -85,20 +89,31 @@ kept-word M bs T n room k h = go (ltb (length T) (length bs)) refl
 
 -- A line of hexadecimal under an opened table.
 pub table-answered : (cs T F I O O′ v : List ℕ) (t : Reply Table) (o : Opening) (b : Bool) (m room u : ℕ) (r : Said) → o ≡ opening.Table
-    → Opens F I t o → Told (Whole cs T m) b → b ≡ true → treeMost < length T → v ≡ take m T
+    → Opens F I t o → Told (WholeBytes cs T m) b → b ≡ true → treeMost < length T → v ≡ take m T
     → ((M : Table) → Opened F I M → Responds (wordInto M v room) O u O′ r) → Answered t (bytesOf cs) room O u O′ r
 table-answered cs T F I O O′ v t o b m room u r i s told e h d f = go t (subst (Opens F I t) i s) (told .if-true e)
   where
-    go : (t : Reply Table) → Opens F I t opening.Table → Whole cs T m → Answered t (bytesOf cs) room O u O′ r
+    go : (t : Reply Table) → Opens F I t opening.Table → WholeBytes cs T m → Answered t (bytesOf cs) room O u O′ r
     go (given M) p w =
-        rw (w .1) (subst (λ (a : Reply Word). Responds a O u O′ r) (ap (λ (x : List ℕ). wordInto M x room) d ∙ kept-word M (w .0) T m room (w .2) h) (f M p))
+        let e = ap (λ (x : List ℕ). wordInto M x room) d ∙ kept-word M (w .0) T m room (w .2) h in
+        rw (w .1) (subst (λ (a : Reply Word). Responds a O u O′ r) e (f M p))
     go (refusal x) p w = absurd p
 
 -- A line of hexadecimal under a table that was refused.
 pub refused-answered : (cs T F I O O′ : List ℕ) (t : Reply Table) (o : Opening) (e : No) (b : Bool) (m room u : ℕ) (r : Said) → o ≡ opening.Refused e
-    → Opens F I t o → Told (Whole cs T m) b → b ≡ true → Responds (refusal e) O u O′ r → Answered t (bytesOf cs) room O u O′ r
+    → Opens F I t o → Told (WholeBytes cs T m) b → b ≡ true → Responds (refusal e) O u O′ r → Answered t (bytesOf cs) room O u O′ r
 refused-answered cs T F I O O′ t o e b m room u r i s told y q = go t (subst (Opens F I t) i s) (told .if-true y)
   where
-    go : (t : Reply Table) → Opens F I t (opening.Refused e) → Whole cs T m → Answered t (bytesOf cs) room O u O′ r
+    go : (t : Reply Table) → Opens F I t (opening.Refused e) → WholeBytes cs T m → Answered t (bytesOf cs) room O u O′ r
     go (given M) p w = absurd p
     go (refusal x) d w = rw (w .1) (subst (λ (y : No). Responds (refusal y) O u O′ r) d q)
+
+-- What was put for a line is its answer.
+pub answered-line : (t : Reply Table) (room u : ℕ) (cs O O′ : List ℕ) (s : Said) → Answered t (bytesOf cs) room O u O′ s
+    → Queued (lineAnswer t room cs) O u O′ (s .used)
+unfolding lineAnswer
+answered-line t room u cs O O′ s a = go (bytesOf cs) refl a
+  where
+    go : (o : Option (List ℕ)) → bytesOf cs ≡ o → Answered t o room O u O′ s → Queued (lineAnswer t room cs) O u O′ (s .used)
+    go none e b = rw (e, lineAnswer) (b .line)
+    go (some bs) e b = rw (e, lineAnswer) (b .line)

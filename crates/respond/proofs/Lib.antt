@@ -1,3 +1,2 @@
 -- What an answer's line says, and trees that are too long for their bytes.
-mod Laws
-mod Pieces
+pub mod Laws

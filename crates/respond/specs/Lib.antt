@@ -1,3 +1,2 @@
 -- The line that answers a line of hexadecimal.
 pub mod Response
-pub mod Piece

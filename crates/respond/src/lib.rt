@@ -1,11 +1,6 @@
-// The lines that answer lines of hexadecimal: the word of a line's tree under an opened table, a
+// The line that answers a line of hexadecimal: the word of the line's tree under an opened table, a
 // refusal, or that the line is not hexadecimal.
-mod piece;
-
 use hexline::SoFar;
-pub use piece::Rest;
-pub use piece::answer;
-pub use piece::take;
 use table::Opening;
 use why_no_word::WordAnswer;
 use words::No;
@@ -19,7 +14,7 @@ ghost use Rattle.trees.specs.Shape.{treeMost};
 ghost use Rattle.promises.specs.Word.{wordInto};
 ghost use Rattle.layout.specs.Layout.{Meant};
 ghost use Rattle.table.specs.Opening.{Opens};
-ghost use Rattle.hexline.specs.SoFar.{Held};
+ghost use Rattle.hexline.specs.SoFar.{LineHeld};
 ghost use Rattle.respond.specs.Response.{Responds, Answered};
 
 // Where an answer is counted: a word at 0, a refusal at its number, a line that is not hexadecimal
@@ -52,7 +47,8 @@ fn to_tree(
     out: &mut [u8],
     used: usize,
 ) -> Said
-    ensures { λ r. ⌜ Meant (now (frames .entry)) (now (numbers .entry)) (λ M. Responds (wordInto M (now (tree .entry)) (length (now (room .entry)))) (now (out .entry)) used (now (out .exit)) r) ⌝ }
+    ensures { λ r. ⌜ Meant (now (frames .entry)) (now (numbers .entry)) (λ M.
+        Responds (wordInto M (now (tree .entry)) (length (now (room .entry)))) (now (out .entry)) used (now (out .exit)) r) ⌝ }
 {
     match word_call::find(frames, numbers, tree, plan, room) {
         WordAnswer::Found(found) => {
@@ -76,7 +72,7 @@ pub fn to_line(
     out: &mut [u8],
     used: usize,
 ) -> Said
-    ensures { λ r. ⌜ ((cs : List ℕ) (t : Reply Table) → Held cs (now (bytes .entry)) line → treeMost < length (now (bytes .entry))
+    ensures { λ r. ⌜ ((cs : List ℕ) (t : Reply Table) → LineHeld cs (now (bytes .entry)) line → treeMost < length (now (bytes .entry))
         → Opens (now (frames .entry)) (now (numbers .entry)) t opening
         → Answered t (bytesOf cs) (length (now (room .entry))) (now (out .entry)) used (now (out .exit)) r) ⌝ }
 {

@@ -7,6 +7,7 @@ use console::Input;
 use hexline::SoFar;
 use table::Opening;
 ghost use mathlib.Core.Path.{_≡_};
+ghost use Prim.Native.Nat.{_<_};
 ghost use lib.ListN.{length};
 
 // The line so far, whether there may be more to read, and who looks on.
@@ -40,7 +41,7 @@ fn take_and_write(
     out: &mut [u8],
     counts: &mut [u64],
 ) -> State {
-    let rest = respond::take(
+    let rest = pieces::take(
         line,
         piece,
         opening,
@@ -102,6 +103,14 @@ fn read_some(
     )
 }
 
+// How many turns are left after one: none where there is nothing more to read.
+fn turns_after(turns: u64, more: bool) -> u64
+    requires { ⌜ 0 < turns ⌝ }
+    ensures { λ r. ⌜ r < turns ⌝ }
+{
+    if more { turns - 1 } else { 0 }
+}
+
 // Reads the whole input. A proved loop has to end, and nothing says that an input does: the loop
 // counts its turns down, from a number that no run uses up.
 fn read_all(
@@ -123,7 +132,7 @@ fn read_all(
         watch,
     };
     let mut turns = u64::MAX;
-    while turns > 0 && state.more {
+    while turns > 0 {
         state = read_some(
             state,
             opening,
@@ -136,7 +145,7 @@ fn read_all(
             out,
             counts,
         );
-        turns -= 1;
+        turns = turns_after(turns, state.more);
     }
     state
 }
@@ -156,7 +165,7 @@ fn answer_last(
     if !line.any {
         return;
     }
-    let used = respond::answer(
+    let used = pieces::answer(
         line,
         opening,
         frames,

@@ -11,10 +11,9 @@ returns c = queued-as (letters-none (c .before .before .before .args .letters .n
 
 returns-2 : tie.Need-returns-2
 returns-2 c =
-    let c6 = c .before .before .before .before .before .before in
-    let c6 = c6 in
-    let c11 = c6 .before .before .before .before .before in
-    queued-as (letters-some (c11 .args .letters .now) (λ z. omega arith)) (queued-then (c6 .put .ensures) (c .before .before .put-hex .ensures))
+    let blank = c .before .before .before .before .before .before in
+    let letters = blank .before .before .before .before .before .args .letters .now in
+    queued-as (letters-some letters (λ z. omega arith)) (queued-then (blank .put .ensures) (c .before .before .put-hex .ensures))
 
 pub put-letters-spec : {M : Type 1} → statement M
 put-letters-spec = tie.close (tie.spec returns (λ c κs. search needs) (λ c κs. search needs) (λ c. search needs) returns-2)

@@ -17,59 +17,34 @@ Inv-loop numbers out₀ used at₀ i₀ out at i = (i ≤ length numbers) × Que
 abbrev μ-loop : tie.MeasureT-loop
 μ-loop numbers out₀ used at₀ i₀ out at i = length numbers - i
 
-slice-aggregate-put-all : tie.Need-slice-aggregate-put-all Inv-loop μ-loop
-slice-aggregate-put-all c = search needs
-
-put-all-requires : tie.Need-put-all-requires Inv-loop μ-loop
-put-all-requires c κs = search needs
-
 loop-holds : tie.Need-loop-holds Inv-loop μ-loop
 unfolding blanked
 loop-holds c = (search needs, queued-none _ _)
 
-put-requires : tie.Need-put-requires Inv-loop μ-loop
-put-requires c κs = search needs
-
-mul-put-number : tie.Need-mul-put-number Inv-loop μ-loop
-mul-put-number c = search needs
-
-shared-slice-read-put-number : tie.Need-shared-slice-read-put-number Inv-loop μ-loop
-shared-slice-read-put-number c = search needs
-
-put-number-requires : tie.Need-put-number-requires Inv-loop μ-loop
-put-number-requires c κs = search needs
-
-add-i : tie.Need-add-i Inv-loop μ-loop
-add-i c = search needs
-
-loop-less : tie.Need-loop-less Inv-loop μ-loop
-loop-less c = search needs
-
 loop-again : tie.Need-loop-again Inv-loop μ-loop
 loop-again c =
-    let c7 = c .before .before .before .before .before .before .before in
-    let c7 = c7 in
-    let c10 = c7 .before .before .before in
-    let c18 = c10 .before .before .before .before .before .before .before .before in
-    (search needs, queued-as (blanked-next (c18 .args .numbers .now) (c10 .loop .i) (search needs)) (queued-then (queued-then (c10 .loop .inv .1) (c7 .put .ensures)) (c .before .before .put-number .ensures)))
-
-put-requires-2 : tie.Need-put-requires-2 Inv-loop μ-loop
-put-requires-2 c κs = search needs
+    let blank = c .before .before .before .before .before .before .before in
+    let round = blank .before .before .before in
+    let numbers = round .before .before .before .before .before .before .before .before .args .numbers .now in (
+      search needs,
+      queued-as (blanked-next numbers (round .loop .i) (search needs))
+          (queued-then (queued-then (round .loop .inv .1) (blank .put .ensures)) (c .before .before .put-number .ensures)),
+    )
 
 same-length : tie.Need-same-length Inv-loop μ-loop
 same-length c =
-    let c5 = c .before .before .before .before .before in
-    let c5 = c5 in
-    let c8 = c5 .before .before .before in
-    c .before .before .put2 .ensures .kept ∙ c5 .loop .inv .1 .kept ∙ c8 .put-all .ensures .kept
+    let round = c .before .before .before .before .before in
+    let no = round .before .before .before in
+    c .before .before .put2 .ensures .kept ∙ round .loop .inv .1 .kept ∙ no .put-all .ensures .kept
 
 returns : tie.Need-returns Inv-loop μ-loop
 returns c =
-    let c5 = c .before .before .before .before .before in
-    let c5 = c5 in
-    let c8 = c5 .before .before .before in
-    let c13 = c8 .before .before .before .before .before in
-    queued-then (queued-then (c8 .put-all .ensures) (queued-as (ap blanked (take-all (c5 .loop .i) (c13 .args .numbers .now) (search needs))) (c5 .loop .inv .1))) (c .before .before .put2 .ensures)
+    let round = c .before .before .before .before .before in
+    let no = round .before .before .before in
+    let numbers = no .before .before .before .before .before .args .numbers .now in
+    queued-then
+    (queued-then (no .put-all .ensures) (queued-as (ap blanked (take-all (round .loop .i) numbers (search needs))) (round .loop .inv .1)))
+    (c .before .before .put2 .ensures)
 
 pub put-no-spec : {M : Type 1} → statement M
 put-no-spec =
@@ -77,16 +52,16 @@ put-no-spec =
     (tie.spec
     Inv-loop
     μ-loop
-    slice-aggregate-put-all
-    put-all-requires
+    (λ c. search needs)
+    (λ c κs. search needs)
     loop-holds
-    put-requires
-    mul-put-number
-    shared-slice-read-put-number
-    put-number-requires
-    add-i
-    loop-less
+    (λ c κs. search needs)
+    (λ c. search needs)
+    (λ c. search needs)
+    (λ c κs. search needs)
+    (λ c. search needs)
+    (λ c. search needs)
     loop-again
-    put-requires-2
+    (λ c κs. search needs)
     same-length
     returns)

@@ -6,13 +6,21 @@ use Rattle.answers.proofs.put_word.Tie as tie
 
 returns : tie.Need-returns
 returns c =
-    let c6 = c .before .before .before .before .before .before in
-    let c6 = c6 in
-    let c10 = c6 .before .before .before .before in
-    let c14 = c10 .before .before .before .before in
-    let c18 = c14 .before .before .before .before in
-    let c22 = c18 .before .before .before .before in
-    queued-then (queued-then (queued-then (queued-then (queued-then (c22 .put-all .ensures) (c18 .put-number .ensures)) (c14 .put .ensures)) (c10 .put-number2 .ensures)) (c6 .put-letters .ensures)) (c .before .before .put2 .ensures)
+    let feed = c .before .before in
+    let letters = feed .before .before .before .before in
+    let terms = letters .before .before .before .before in
+    let blank = terms .before .before .before .before in
+    let long = blank .before .before .before .before in
+    let named = long .before .before .before .before in
+    queued-then
+    (queued-then
+    (queued-then
+    (queued-then
+    (queued-then (named .put-all .ensures) (long .put-number .ensures))
+    (blank .put .ensures))
+    (terms .put-number2 .ensures))
+    (letters .put-letters .ensures))
+    (feed .put2 .ensures)
 
 pub put-word-spec : {M : Type 1} → statement M
 put-word-spec =

@@ -3,7 +3,7 @@ use Prim.Native.Nat.{_≤_, _-_}
 use mathlib.Core.Path.{_≡_}
 use lib.ListN.{length}
 use native.Mathlib.Omega.{arith}
-use Rattle.console.proofs.Reading.{bytes-inside}
+use Rattle.console.proofs.Reading.{bytes-within}
 use borrow.Author.Needs.{needs}
 use Rattle.console.proofs.read_all.Statement.{statement}
 use Rattle.console.proofs.read_all.Tie as tie
@@ -14,58 +14,16 @@ Inv-loop fd buf₀ n₀ buf n = (n ≤ length buf) × (length buf ≡ length buf
 abbrev μ-loop : tie.MeasureT-loop
 μ-loop fd buf₀ n₀ buf n = length buf - n
 
-loop-holds : tie.Need-loop-holds Inv-loop μ-loop
-loop-holds c = search needs
-
-sub-read-some : tie.Need-sub-read-some Inv-loop μ-loop
-sub-read-some c = search needs
-
-part-read-some-start : tie.Need-part-read-some-start Inv-loop μ-loop
-part-read-some-start c = search needs
-
-part-read-some-end : tie.Need-part-read-some-end Inv-loop μ-loop
-part-read-some-end c = search needs
-
-read-some-requires : tie.Need-read-some-requires Inv-loop μ-loop
-read-some-requires c κs = search needs
-
-enum-known-k : tie.Need-enum-known-k Inv-loop μ-loop
-enum-known-k c = search needs
-
-enum-told : tie.Need-enum-told Inv-loop μ-loop
-enum-told c = search needs
-
-same-length : tie.Need-same-length Inv-loop μ-loop
-same-length c = search needs
-
-returns : tie.Need-returns Inv-loop μ-loop
-returns c = search needs
-
-same-length-2 : tie.Need-same-length-2 Inv-loop μ-loop
-same-length-2 c = search needs
-
-returns-2 : tie.Need-returns-2 Inv-loop μ-loop
-returns-2 c = search needs
-
 add-n : tie.Need-add-n Inv-loop μ-loop
 add-n c =
-    let c6 = c .before .before .before .before .before .before in
-    omega (arith, bytes-inside _ _ (c .before .before .k .given .1) (c6 .read-some .ensures))
-
-loop-less : tie.Need-loop-less Inv-loop μ-loop
-loop-less c = search needs
+    let called = c .before .before .before .before .before .before in
+    omega (arith, bytes-within _ _ (c .before .before .k .given .1) (called .read-some .ensures))
 
 loop-again : tie.Need-loop-again Inv-loop μ-loop
 loop-again c =
-    let c6 = c .before .before .before .before .before .before in
-    let small = bytes-inside _ _ (c .before .before .k .given .1) (c6 .read-some .ensures) in
+    let called = c .before .before .before .before .before .before in
+    let small = bytes-within _ _ (c .before .before .k .given .1) (called .read-some .ensures) in
     (omega (arith, small), search needs)
-
-same-length-3 : tie.Need-same-length-3 Inv-loop μ-loop
-same-length-3 c = search needs
-
-returns-3 : tie.Need-returns-3 Inv-loop μ-loop
-returns-3 c = search needs
 
 pub read-all-spec : {M : Type 1} → statement M
 read-all-spec =
@@ -73,19 +31,19 @@ read-all-spec =
     (tie.spec
     Inv-loop
     μ-loop
-    loop-holds
-    sub-read-some
-    part-read-some-start
-    part-read-some-end
-    read-some-requires
-    enum-known-k
-    enum-told
-    same-length
-    returns
-    same-length-2
-    returns-2
+    (λ c. search needs)
+    (λ c. search needs)
+    (λ c. search needs)
+    (λ c. search needs)
+    (λ c κs. search needs)
+    (λ c. search needs)
+    (λ c. search needs)
+    (λ c. search needs)
+    (λ c. search needs)
+    (λ c. search needs)
+    (λ c. search needs)
     add-n
-    loop-less
+    (λ c. search needs)
     loop-again
-    same-length-3
-    returns-3)
+    (λ c. search needs)
+    (λ c. search needs))

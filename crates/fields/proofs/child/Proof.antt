@@ -8,30 +8,21 @@ use borrow.Author.Needs.{needs}
 use Rattle.fields.proofs.child.Statement.{statement}
 use Rattle.fields.proofs.child.Tie as tie
 
-below-requires : tie.Need-below-requires
-below-requires c κs = search needs
-
-enum-known-first : tie.Need-enum-known-first
-enum-known-first c = search needs
-
-enum-told : tie.Need-enum-told
-enum-told c = search needs
-
-number-of-requires : tie.Need-number-of-requires
-number-of-requires c κs = search needs
-
 returns : tie.Need-returns
 returns c =
     let a = c .before .before .before .before .before .args in
-    let k = c .before .enum-told .given .0 .0 in
-    let f = law.fault-number (a .frames .now) (a .at) (a .end) k _ (c .before .before .before .below .result) (c .before .enum-told .given .1) (c .before .before .before .below .ensures) in
+    let b = c .before .before .before .below in
+    let told = c .before .enum-told .given in
+    let k = told .0 .0 in
+    let f = law.fault-number (a .frames .now) (a .at) (a .end) k _ (b .result) (told .1) (b .ensures) in
     child.child-fault (a .frames .now) (a .at) (a .end) k _ _ (child.state-fault (a .states) _ k f)
-    (child.fault-of (c .before .before .before .below .result) (c .number-of .result) k (c .before .enum-told .given .1) (c .number-of .ensures))
+    (child.fault-of (b .result) (c .number-of .result) k (told .1) (c .number-of .ensures))
 
 -- What the state's byte gives.
 numbered : (c : tie.After-known-told) →
     let a = c .before .before .before .before .before .args in
-    law.IsNumber (a .frames .now) (a .at) (a .end) (c .before .first .given .0 .0) (c .before .first .given .0 .1 .0) (text.below (a .states) (slice (a .at) (a .end) (a .frames .now)))
+    let g = c .before .first .given .0 in
+    law.IsNumber (a .frames .now) (a .at) (a .end) (g .0) (g .1 .0) (text.below (a .states) (slice (a .at) (a .end) (a .frames .now)))
 numbered c =
     let a = c .before .before .before .before .before .args in
     let b = c .before .before .before .below in
@@ -40,29 +31,24 @@ numbered c =
 word-requires : tie.Need-word-requires
 word-requires c κs = (numbered c .inside, c .before .before .before .before .before .pre .1)
 
-enum-known-second : tie.Need-enum-known-second
-enum-known-second c = search needs
-
-enum-told-2 : tie.Need-enum-told-2
-enum-told-2 c = search needs
-
-number-of-requires-2 : tie.Need-number-of-requires-2
-number-of-requires-2 c κs = search needs
-
 returns-2 : tie.Need-returns-2
 returns-2 c =
-    let a = c .before .before .before .before .before .before .before .before .before .args in
-    let k = c .before .enum-told2 .given .0 .0 in
-    let f = word.fault-word (a .frames .now) (c .before .before .before .before .before .first .given .0 .1 .0) (a .end) k _ (c .before .before .before .word .result) (c .before .enum-told2 .given .1) (c .before .before .before .word .ensures) in
-    child.child-fault (a .frames .now) (a .at) (a .end) k _ _ (child.after-fault (a .states) _ _ k _ (numbered (c .before .before .before .before) .read) f)
-    (child.fault-of (c .before .before .before .word .result) (c .number-of2 .result) k (c .before .enum-told2 .given .1) (c .number-of2 .ensures))
+    let n = c .before .before .before .before in
+    let a = n .before .before .before .before .before .args in
+    let w = c .before .before .before .word in
+    let told = c .before .enum-told2 .given in
+    let k = told .0 .0 in
+    let f = word.fault-word (a .frames .now) (n .before .first .given .0 .1 .0) (a .end) k _ (w .result) (told .1) (w .ensures) in
+    child.child-fault (a .frames .now) (a .at) (a .end) k _ _ (child.after-fault (a .states) _ _ k _ (numbered n .read) f)
+    (child.fault-of (w .result) (c .number-of2 .result) k (told .1) (c .number-of2 .ensures))
 
 -- What the word behind it gives.
 worded : (c : tie.After-known-told2) →
     let n = c .before .before .before .before in
     let a = n .before .before .before .before .before .args in
     let u = n .before .first .given .0 .1 .0 in
-    word.IsWord (a .frames .now) u (a .end) (c .before .second .given .0 .0) (c .before .second .given .0 .1 .0) (text.text (slice u (a .end) (a .frames .now)))
+    let g = c .before .second .given .0 in
+    word.IsWord (a .frames .now) u (a .end) (g .0) (g .1 .0) (text.text (slice u (a .end) (a .frames .now)))
 worded c =
     let n = c .before .before .before .before in
     let a = n .before .before .before .before .before .args in
@@ -73,22 +59,22 @@ returns-3 : tie.Need-returns-3
 returns-3 c =
     let n = c .before .before .before .before in
     let a = n .before .before .before .before .before .args in
-    let f = n .before .first in
-    let s = c .before .second in
-    child.child-got (a .frames .now) (a .at) (a .end) (a .states) (f .given .0 .0) (f .given .0 .1 .0) (s .given .0 .0) (s .given .0 .1 .0) (numbered n) (worded c)
+    let f = n .before .first .given .0 in
+    let s = c .before .second .given .0 in
+    child.child-got (a .frames .now) (a .at) (a .end) (a .states) (f .0) (f .1 .0) (s .0) (s .1 .0) (numbered n) (worded c)
 
 pub child-spec : {M : Type 1} → statement M
 child-spec =
     tie.close
     (tie.spec
-    below-requires
-    enum-known-first
-    enum-told
-    number-of-requires
+    (λ c κs. search needs)
+    (λ c. search needs)
+    (λ c. search needs)
+    (λ c κs. search needs)
     returns
     word-requires
-    enum-known-second
-    enum-told-2
-    number-of-requires-2
+    (λ c. search needs)
+    (λ c. search needs)
+    (λ c κs. search needs)
     returns-2
     returns-3)

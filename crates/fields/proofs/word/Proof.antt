@@ -10,26 +10,20 @@ use borrow.Author.Needs.{needs}
 use Rattle.fields.proofs.word.Statement.{statement}
 use Rattle.fields.proofs.word.Tie as tie
 
-within-requires : tie.Need-within-requires
-within-requires c κs = search needs
-
-enum-known-got : tie.Need-enum-known-got
-enum-known-got c = search needs
-
-enum-told : tie.Need-enum-told
-enum-told c = search needs
-
 returns : tie.Need-returns
 returns c =
     let a = c .before .before .before .before .args in
-    let k = c .enum-told .given .0 .0 in
-    let f = law.fault-number (a .frames .now) (a .at) (a .end) k _ (c .before .before .within .result) (c .enum-told .given .1) (c .before .before .within .ensures) in
-    word.word-fault (a .frames .now) (a .at) (a .end) k _ (c .before .before .within .result) (c .enum-told .given .1) (word.text-length _ k f)
+    let w = c .before .before .within in
+    let told = c .enum-told .given in
+    let k = told .0 .0 in
+    let f = law.fault-number (a .frames .now) (a .at) (a .end) k _ (w .result) (told .1) (w .ensures) in
+    word.word-fault (a .frames .now) (a .at) (a .end) k _ (w .result) (told .1) (word.text-length _ k f)
 
 -- What the length byte gives.
 numbered : (c : tie.After-known-told) →
     let a = c .before .before .before .before .before .args in
-    law.IsNumber (a .frames .now) (a .at) (a .end) (c .before .got .given .0 .0) (c .before .got .given .0 .1 .0) (text.within 0 32 (slice (a .at) (a .end) (a .frames .now)))
+    let g = c .before .got .given .0 in
+    law.IsNumber (a .frames .now) (a .at) (a .end) (g .0) (g .1 .0) (text.within 0 32 (slice (a .at) (a .end) (a .frames .now)))
 numbered c =
     let a = c .before .before .before .before .before .args in
     let w = c .before .before .before .within in
@@ -43,17 +37,19 @@ add-t10 c = omega (arith, numbered (c .before) .inside)
 
 returns-2 : tie.Need-returns-2
 returns-2 c =
-    let a = c .before .before .before .before .before .before .args in
-    let g = c .before .before .got in
-    word.word-got (a .frames .now) (a .at) (a .end) (g .given .0 .0) (g .given .0 .1 .0) (c .before .before .before .before .before .before .pre .1) (numbered (c .before)) (omega arith)
+    let entry = c .before .before .before .before .before .before in
+    let a = entry .args in
+    let g = c .before .before .got .given .0 in
+    word.word-got (a .frames .now) (a .at) (a .end) (g .0) (g .1 .0) (entry .pre .1) (numbered (c .before)) (omega arith)
 
 returns-3 : tie.Need-returns-3
 returns-3 c =
-    let a = c .before .before .before .before .before .before .args in
-    let g = c .before .before .got in
-    word.word-lacking (a .frames .now) (a .at) (a .end) (g .given .0 .0) (g .given .0 .1 .0) (c .before .before .before .before .before .before .pre .1) (numbered (c .before)) (omega arith)
+    let entry = c .before .before .before .before .before .before in
+    let a = entry .args in
+    let g = c .before .before .got .given .0 in
+    word.word-lacking (a .frames .now) (a .at) (a .end) (g .0) (g .1 .0) (entry .pre .1) (numbered (c .before)) (omega arith)
 
 pub word-spec : {M : Type 1} → statement M
 word-spec =
     tie.close
-    (tie.spec within-requires enum-known-got enum-told returns sub-if1 add-t10 returns-2 returns-3)
+    (tie.spec (λ c κs. search needs) (λ c. search needs) (λ c. search needs) returns sub-if1 add-t10 returns-2 returns-3)

@@ -13,20 +13,18 @@ returns c =
 
 returns-2 : tie.Need-returns-2
 returns-2 c =
-    let c4 = c .before .before .before .before in
     let d = c .before .before .digit in
-    λ cs. law.fed-waits (c4 .args .c) (d .result) (d .ensures) (c .before .if1 .left) (c .if2 .taken)
+    λ cs. law.fed-waits (c .before .before .before .before .args .c) (d .result) (d .ensures) (c .before .if1 .left) (c .if2 .taken)
 
 returns-3 : tie.Need-returns-3
 returns-3 c =
-    let c4 = c .before .before .before .before in
-    let c5 = c4 .before in
-    let c6 = c5 .before in
-    let c7 = c6 .before in
-    let c9 = c7 .before .before in
-    let d = c7 .digit in
+    let joined = c .before .before .before .before in
+    let half-tested = joined .before in
+    let tested = half-tested .before in
+    let d = tested .before .digit in
     let s = c .before .before .store .ensures in
-    λ cs. law.fed-byte (c9 .args .c) (d .result) (d .ensures) (c6 .if1 .left) (c5 .if2 .left) s (omega (arith, c4 .join .ensures))
+    λ cs. law.fed-byte (tested .before .before .before .args .c) (d .result) (d .ensures) (tested .if1 .left) (half-tested .if2 .left) s
+    (omega (arith, joined .join .ensures))
 
 pub feed-spec : {M : Type 1} → statement M
 feed-spec =

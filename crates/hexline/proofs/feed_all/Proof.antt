@@ -1,5 +1,5 @@
--- `feed_all` meets its contract. The loop's invariant: the characters before `taken` are taken, and none is a line feed. The measure is what is left of
--- the piece. Assumes nothing.
+-- `feed_all` meets its contract. The loop's invariant: the characters before `taken` are taken, and none is a line feed.
+-- The measure is what is left of the piece. Assumes nothing.
 use Prim.Native.Nat.{_-_}
 use native.Mathlib.Omega.{arith}
 use borrow.Author.Needs.{needs}
@@ -9,7 +9,7 @@ use Rattle.hexline.proofs.feed_all.Statement.{statement}
 use Rattle.hexline.proofs.feed_all.Tie as tie
 
 abbrev Inv-loop : tie.InvT-loop
-Inv-loop piece tree₀ line₀ taken₀ tree line taken = law.Going piece tree₀ line₀ tree line taken
+Inv-loop piece tree₀ line₀ taken₀ tree line taken = law.FedSoFar piece tree₀ line₀ tree line taken
 
 abbrev μ-loop : tie.MeasureT-loop
 μ-loop piece tree₀ line₀ taken₀ tree line taken = length piece - taken
@@ -17,7 +17,7 @@ abbrev μ-loop : tie.MeasureT-loop
 loop-holds : tie.Need-loop-holds Inv-loop μ-loop
 loop-holds c =
     let a = c .before .before .args in
-    law.going-none (a .piece .now) (a .tree .now) (a .line)
+    law.fed-none (a .piece .now) (a .tree .now) (a .line)
 
 same-length : tie.Need-same-length Inv-loop μ-loop
 same-length c = c .before .before .before .loop .inv .long
@@ -25,13 +25,13 @@ same-length c = c .before .before .before .loop .inv .long
 returns : tie.Need-returns Inv-loop μ-loop
 returns c =
     let i = c .before .before .before .loop .inv in
-    (law.going-taken i (λ h. c .if1 .taken), i .held)
+    (law.fed-taken i (λ h. c .if1 .taken), i .held)
 
 loop-again : tie.Need-loop-again Inv-loop μ-loop
 loop-again c =
-    let c4 = c .before .before .before .before in
-    let c7 = c4 .before .before .before in
-    law.going-more (c7 .loop .inv) (omega arith) (search needs) (c4 .if1 .left) (c .before .before .feed .ensures)
+    let tested = c .before .before .before .before in
+    let round = tested .before .before .before in
+    law.fed-more (round .loop .inv) (omega arith) (search needs) (tested .if1 .left) (c .before .before .feed .ensures)
 
 same-length-2 : tie.Need-same-length-2 Inv-loop μ-loop
 same-length-2 c = c .before .loop .inv .long
@@ -39,7 +39,7 @@ same-length-2 c = c .before .loop .inv .long
 returns-2 : tie.Need-returns-2 Inv-loop μ-loop
 returns-2 c =
     let i = c .before .loop .inv in
-    (law.going-taken i (λ h. absurd (omega arith)), i .held)
+    (law.fed-taken i (λ h. absurd (omega arith)), i .held)
 
 pub feed-all-spec : {M : Type 1} → statement M
 feed-all-spec =

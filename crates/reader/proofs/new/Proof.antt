@@ -34,6 +34,7 @@ use denote.Triple.Table.{entered}
 use denote.Triple.Walked.{says, Stays, stay-none, stay-none-slice, walkOf, goes-none, goes-none-slice, Walks, ends-at, walked, walk-meets}
 use denote.Exit.{yes}
 use Rattle.reader.specs.declared.Reader.{Reader}
+use Rattle.reader.proofs.Steps.{number, copied, freed}
 use Rattle.reader.proofs.Reader as T
 use Rattle.reader.proofs.Reader.Laws as T′
 use Rattle.reader.proofs.new.Key.{name as #reader·new}
@@ -44,55 +45,69 @@ use Rattle.reader.proofs.new.Code as code
 abbrev stayed : Stays (new.ended .signature .params) (new.ended .kept)
 stayed = (stay-none-slice (0 ∷ []) tt (plain (λ _. u8)) yes, (stay-none (λ _. usize) yes, tt))
 
-module _ {M : Type 1} (𝓤 : URA M) (H : Heap 𝓤) (A : Atoms 𝓤) (W : Given 𝓤 H A) (mem : Memory → SProp 𝓤) (run : Routine → Fun 𝓤) (κ : Lft) (q : Share) (s : RefT (List ℕ)) (n : ℕ) (fits : n < 2 ^ 64) where
-  abbrev α : NamedLft
-  α = namedLft 1 0 tt (κ, tt)
-
-  -- the machine value that the text has
-  abbrev v : Val
-  v = sliceVal (s .ptr) (length (s .now))
-
-  abbrev made : Reader
-  made = record { text = s; at = n }
-
-  abbrev passed : Vals new.signature (κ, tt)
-  passed = (v ∷ [], (vint w64 n ∷ [], tt))
-
-  abbrev Post : Val → SProp 𝓤
-  Post = walkOf 𝓤 H A new.ended stayed (new.clauses 𝓤 H A mem run) .post (((κ, tt), (q, tt), tt, (s, (n, tt)), passed), tt)
-
-  abbrev Own : Fml
-  Own = ShrSlice (named 0) κ u8 .own s (v ∷ [])
-
-  exits : ent 𝓤 (onEntry 𝓤 H A new.signature (κ, tt) (q, tt) (s, (n, tt)) passed) (Post (T′.lowered made))
-  exits =
-      qed W ((‵ (flft κ q) ⊛ ‵ ftrue) ∷ ‵ (owns (ShrSlice (named 0) κ u8 ∷ usize ∷ []) (s, (n, tt)) passed) ∷ []) ∵
-      suffices ! _ (ends-at 𝓤 H A new.ended stayed (new.clauses 𝓤 H A mem run) W (((κ, tt), (q, tt), tt, (s, (n, tt)), passed), tt) (T′.lowered made) made (tt, (tt, tt)) (tt, (tt, tt))) $ says ! (refl, refl) $
-      frame ! $ fsplit ! $ use1 W (‵ Own ⊛ ‵ Own) (shr-slice-copy 𝓤 H A W (named 0) κ u8 .twice s (v ∷ [])) $ split ! $ move ! (0 ∷ 2 ∷ []) $ fjoin ! $ frame ! $
-      -- [what the text owns]: of it and of the place's facts is made what the struct owns
-      nothing ! $ owned ! usize (Is usize) (uint-makes 𝓤 H A W w64) n _ (refl, fits) $ fjoin ! $ move ! (1 ∷ 0 ∷ []) $ fjoin ! $ by ! (own-shut 𝓤 H A W (T.the-type α) (T′.the-laws α) (s, (n, tt)))
-
-  module _ (C : Calls 𝓤 H) (Λ : Loops 𝓤 H) where
-    walk : Is (ShrSlice (named 0) κ u8) s (v ∷ []) → ent 𝓤 (onEntry 𝓤 H A new.signature (κ, tt) (q, tt) (s, (n, tt)) passed) (WpFn 𝓤 H C Λ code.function (v ∷ vint w64 n ∷ []) Post)
-    walk p =
-        qed W (raw (onEntry 𝓤 H A new.signature (κ, tt) (q, tt) (s, (n, tt)) passed) ∷ []) ∵ enter ! C Λ code.function (v ∷ vint w64 n ∷ []) _ $
-        alloc1 ! (λ l₀. alloc1 ! (λ l₁. alloc1 ! (λ l₂. alloc0 ! $ params1 ! $
-        pass1 ! (init ! 2 refl (shr-slice-lawful 𝓤 H A W (named 0) κ u8 .typed s (v ∷ []) p .0)) $ pass1 ! (init ! 0 refl (tt, record { fits = fits })) $ pass0 ! $
-        -- [_2; …; _1; …; room for _0; …; the token, and what is owned]
-        assigns ! (agg ! (and-then ! (load ! (from ! (stop !)) (look ! 2 refl)) (and-then ! (load ! (from ! (stop !)) (look ! 0 refl)) (no-more !)))) (from ! (stop !))
-        (init ! 4 refl (tt, (shr-slice-lawful 𝓤 H A W (named 0) κ u8 .typed s (v ∷ []) p .0 .1, (record { fits = fits }, tt)))) $
-        returns ! (look ! 4 refl) $ forget ! 0 refl $ forget ! 2 refl $ forget ! 4 refl $ move ! (4 ∷ 5 ∷ []) $ free1 ! $ move ! (2 ∷ 3 ∷ []) $ free1 ! $ free1 ! $ free0 ! $ by ! exits)))
-
 module _ {M : Type 1} (𝓤 : URA M) (H : Heap 𝓤) (A : Atoms 𝓤) (W : Given 𝓤 H A) (mem : Memory → SProp 𝓤) (run : Routine → Fun 𝓤) where
-  new-walks : (C : Calls 𝓤 H) (Λ : Loops 𝓤 H) → Walks 𝓤 H A new.ended stayed (WpFn 𝓤 H C Λ code.function) (new.clauses 𝓤 H A mem run)
-  new-walks C Λ = walked 𝓤 H A new.ended stayed (new.clauses 𝓤 H A mem run) (WpFn 𝓤 H C Λ code.function) (λ κs. (slice-vals, (uint-vals w64, tt))) (λ κs. (shr-slice-tells (named 0) (κs .0) u8, (uint-tells w64, tt)))
-      (λ κs qs bounds a g are. via 𝓤 _ (fst∗ 𝓤 _ (emp 𝓤)) (walk 𝓤 H A W mem run (κs .0) (qs .0) (a .0) (a .1 .0) (are .1 .0 .1) C Λ (are .0)))
+  module _ (κ : Lft) (q : Share) (s : RefT (List ℕ)) (n : ℕ) (fits : n < 2 ^ 64) where
+    abbrev α : NamedLft
+    α = namedLft 1 0 tt (κ, tt)
 
-new-meets : {M : Type 1} (𝓤 : URA M) (H : Heap 𝓤) (A : Atoms 𝓤) → Given 𝓤 H A → (mem : Memory → SProp 𝓤) (run : Routine → Fun 𝓤) (𝓣 : Tables 𝓤 H)
-    → Meets 𝓤 H A new.signature (WpFn 𝓤 H (𝓣 .C) (𝓣 .Λ) code.function) (new.spec 𝓤 H A mem run)
-new-meets 𝓤 H A W mem run 𝓣 =
-    walk-meets 𝓤 H A new.ended stayed W (goes-none-slice 𝓤 H A W 1 (0 ∷ []) tt (plain (λ _. u8)) yes, (goes-none 𝓤 H A W 1 (λ _. usize) yes (λ κs x f. refl), tt)) (new.clauses 𝓤 H A mem run)
-    (WpFn 𝓤 H (𝓣 .C) (𝓣 .Λ) code.function) (WpFn-mono 𝓤 H (W .laws) 𝓣 code.function) (new-walks 𝓤 H A W mem run (𝓣 .C) (𝓣 .Λ))
+    -- the machine value that the text has
+    abbrev v : Val
+    v = sliceVal (s .ptr) (length (s .now))
+
+    abbrev made : Reader
+    made = record { text = s; at = n }
+
+    abbrev passed : Vals new.signature (κ, tt)
+    passed = (v ∷ [], (vint w64 n ∷ [], tt))
+
+    abbrev Pre : SProp 𝓤
+    Pre = onEntry 𝓤 H A new.signature (κ, tt) (q, tt) (s, (n, tt)) passed
+
+    abbrev Post : Val → SProp 𝓤
+    Post = walkOf 𝓤 H A new.ended stayed (new.clauses 𝓤 H A mem run) .post (((κ, tt), (q, tt), tt, (s, (n, tt)), passed), tt)
+
+    abbrev Own : Fml
+    Own = ShrSlice (named 0) κ u8 .own s (v ∷ [])
+
+    exits : ent 𝓤 Pre (Post (T′.lowered made))
+    exits =
+        qed W ((‵ (flft κ q) ⊛ ‵ ftrue) ∷ ‵ (owns (ShrSlice (named 0) κ u8 ∷ usize ∷ []) (s, (n, tt)) passed) ∷ []) ∵
+        suffices ! _
+        (ends-at 𝓤 H A new.ended stayed (new.clauses 𝓤 H A mem run) W (((κ, tt), (q, tt), tt, (s, (n, tt)), passed), tt)
+        (T′.lowered made) made (tt, (tt, tt)) (tt, (tt, tt))) $
+        says ! (refl, refl) $ frame ! $ fsplit ! $
+        use1 W (‵ Own ⊛ ‵ Own) (shr-slice-copy 𝓤 H A W (named 0) κ u8 .twice s (v ∷ [])) $ split ! $
+        move ! (0 ∷ 2 ∷ []) $ fjoin ! $ frame ! $
+        -- [what the text owns]: of it and of the place's facts is made what the struct owns
+        nothing ! $ number ! n fits $ fjoin ! $ move ! (1 ∷ 0 ∷ []) $ fjoin ! $
+        by ! (own-shut 𝓤 H A W (T.the-type α) (T′.the-laws α) (s, (n, tt)))
+
+    walk : Is (ShrSlice (named 0) κ u8) s (v ∷ []) → (C : Calls 𝓤 H) (Λ : Loops 𝓤 H)
+        → ent 𝓤 Pre (WpFn 𝓤 H C Λ code.function (v ∷ vint w64 n ∷ []) Post)
+    walk p C Λ =
+        let text-typed = shr-slice-lawful 𝓤 H A W (named 0) κ u8 .typed s (v ∷ []) p .0 in
+        qed W (raw Pre ∷ []) ∵ enter ! C Λ code.function (v ∷ vint w64 n ∷ []) _ $
+        alloc1 ! (λ l₀. alloc1 ! (λ l₁. alloc1 ! (λ l₂. alloc0 ! $ params1 ! $
+        pass1 ! (init ! 2 refl text-typed) $ pass1 ! (init ! 0 refl (tt, record { fits = fits })) $ pass0 ! $
+        -- [_2; …; _1; …; room for _0; …; the token, and what is owned]
+        assigns ! (agg ! (and-then ! (copied ! 2 refl) (and-then ! (copied ! 0 refl) (no-more !)))) (from ! (stop !))
+        (init ! 4 refl (tt, (text-typed .1, (record { fits = fits }, tt)))) $
+        returns ! (look ! 4 refl) $ freed ! 4 refl refl $ freed ! 2 refl refl $ freed ! 0 refl refl $ free0 ! $ by ! exits)))
+
+  abbrev Runs : Tables 𝓤 H → List Val → (Val → SProp 𝓤) → SProp 𝓤
+  Runs 𝓣 = WpFn 𝓤 H (𝓣 .C) (𝓣 .Λ) code.function
+
+  new-walks : (𝓣 : Tables 𝓤 H) → Walks 𝓤 H A new.ended stayed (Runs 𝓣) (new.clauses 𝓤 H A mem run)
+  new-walks 𝓣 =
+      walked 𝓤 H A new.ended stayed (new.clauses 𝓤 H A mem run) (Runs 𝓣)
+      (λ κs. (slice-vals, (uint-vals w64, tt))) (λ κs. (shr-slice-tells (named 0) (κs .0) u8, (uint-tells w64, tt)))
+      (λ κs qs bounds a g are. via 𝓤 _ (fst∗ 𝓤 _ (emp 𝓤)) (walk (κs .0) (qs .0) (a .0) (a .1 .0) (are .1 .0 .1) (are .0) (𝓣 .C) (𝓣 .Λ)))
+
+  new-meets : (𝓣 : Tables 𝓤 H) → Meets 𝓤 H A new.signature (Runs 𝓣) (new.spec 𝓤 H A mem run)
+  new-meets 𝓣 =
+      walk-meets 𝓤 H A new.ended stayed W
+      (goes-none-slice 𝓤 H A W 1 (0 ∷ []) tt (plain (λ _. u8)) yes, (goes-none 𝓤 H A W 1 (λ _. usize) yes (λ κs x f. refl), tt))
+      (new.clauses 𝓤 H A mem run) (Runs 𝓣) (WpFn-mono 𝓤 H (W .laws) 𝓣 code.function) (new-walks 𝓣)
 
 pub new-spec : {M : Type 1} → stated.statement M
 unfolding code.routine tablesOf

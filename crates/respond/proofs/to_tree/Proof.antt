@@ -6,16 +6,17 @@ use Rattle.respond.proofs.to_tree.Tie as tie
 
 returns : tie.Need-returns
 returns c =
-    let c4 = c .before .before .before .before in
-    let c7 = c4 .before .before .before in
-    let c11 = c7 .before .before .before .before in
-    λ M o. word-responds _ _ _ _ _ _ _ _ _ _ (c7 .found .given .1) (c11 .find .ensures M o) (c4 .front .ensures) (c .before .before .put-word .ensures)
+    let cut = c .before .before .before .before in
+    let told = cut .before .before .before in
+    let called = told .before .before .before .before in
+    λ M o.
+    word-responds _ _ _ _ _ _ _ _ _ _ (told .found .given .1) (called .find .ensures M o) (cut .front .ensures) (c .before .before .put-word .ensures)
 
 returns-2 : tie.Need-returns-2
 returns-2 c =
-    let c5 = c .before .before .before .before .before in
-    let c9 = c5 .before .before .before .before in
-    λ M o. refusal-responds _ _ _ _ _ _ _ _ _ (c5 .no .given .1) (c9 .find .ensures M o) (c .before .before .refused .ensures)
+    let told = c .before .before .before .before .before in
+    let called = told .before .before .before .before in
+    λ M o. refusal-responds _ _ _ _ _ _ _ _ _ (told .no .given .1) (called .find .ensures M o) (c .before .before .refused .ensures)
 
 pub to-tree-spec : {M : Type 1} → statement M
 to-tree-spec =

@@ -5,7 +5,7 @@ use Prim.Native.Nat.{_-_}
 use native.Mathlib.Omega.{arith}
 use borrow.Author.Needs.{needs}
 use lib.ListN.{length, drop}
-use Rattle.lines.specs.Scan.{scan, bad, Kept}
+use Rattle.lines.specs.Scan.{scan, bad, FrontKept}
 use Rattle.lines.proofs.Laws.{IsWhole, whole-taken, bad-taken}
 use Rattle.table_lines.proofs.Stages as stage
 use Rattle.table_lines.proofs.Ends as law
@@ -38,7 +38,7 @@ line-spoiled : (k : tie.After-enum-told Inv-loop μ-loop) →
     let turn = k .before .before .before .before .before .before .before in
     let text = turn .before .before .before .before .before .args .text .now in
     let l = turn .loop in
-    (scan (drop (l .at) text) ≡ bad) × Kept (l .st .used) (l .bytes) (k .before .before .before .before .next-line .last .1 .1 .0)
+    (scan (drop (l .at) text) ≡ bad) × FrontKept (l .st .used) (l .bytes) (k .before .before .before .before .next-line .last .1 .1 .0)
 line-spoiled k =
     let turn = k .before .before .before .before .before .before .before in
     let text = turn .before .before .before .before .before .args .text .now in

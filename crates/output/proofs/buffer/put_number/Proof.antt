@@ -7,9 +7,10 @@ use Rattle.output.proofs.buffer.put_number.Tie as tie
 
 returns : tie.Need-returns
 returns c =
-    let c5 = c .before .before .before .before .before in
-    let c8 = c5 .before .before .before in
-    queued-as (spelt-decimal (c8 .args .n) (c5 .decimal .result) _ (c5 .decimal .ensures .1 .0) (c5 .decimal .ensures .1 .1)) (c .before .before .put-all .ensures)
+    let called = c .before .before .before .before .before in
+    let d = called .decimal in
+    queued-as (spelt-decimal (called .before .before .before .args .n) (d .result) _ (d .ensures .1 .0) (d .ensures .1 .1))
+    (c .before .before .put-all .ensures)
 
 pub put-number-spec : {M : Type 1} → statement M
 put-number-spec =

@@ -1,0 +1,2 @@
+-- The lines of a piece of the input.
+pub mod Piece
