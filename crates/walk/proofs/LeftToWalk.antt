@@ -19,7 +19,7 @@ use Rattle.walk.proofs.Roots.{root-byte, below-bytes}
 
 -- The children cs behind the first j are left of the rule that x tells, and the trees ts of the tree t: where they stand, and that the tree lacks
 -- what they lack.
-pub record Left (S : List ℕ) (at below q : ℕ) (M : Table) (t : Tree) (x j next : ℕ) (cs : List Child) (ts : Forest) : Type 0 where
+pub record LeftToWalk (S : List ℕ) (at below q : ℕ) (M : Table) (t : Tree) (x j next : ℕ) (cs : List Child) (ts : Forest) : Type 0 where
   pub number : ℕ
   pub rule : Rule
   pub holds : Holds x number rule
@@ -34,8 +34,8 @@ pub record Left (S : List ℕ) (at below q : ℕ) (M : Table) (t : Tree) (x j ne
   pub lacking : lacks M q t at ≡ lackss M ts cs next
 
 -- Some children and trees are left.
-abbrev pub Going : (S : List ℕ) (at below q : ℕ) (M : Table) (t : Tree) (x j next : ℕ) → Type 0
-Going S at below q M t x j next = (cs : List Child) × (ts : Forest) × Left S at below q M t x j next cs ts
+abbrev pub Walking : (S : List ℕ) (at below q : ℕ) (M : Table) (t : Tree) (x j next : ℕ) → Type 0
+Walking S at below q M t x j next = (cs : List Child) × (ts : Forest) × LeftToWalk S at below q M t x j next cs ts
 
 -- A tree ends where the trees below it end.
 node-end : (at f : ℕ) (ts : Forest) → at + 1 + length (preorders ts) ≡ at + length (preorder (node f ts))
@@ -60,9 +60,9 @@ module _ {F I S : List ℕ} {at levels : ℕ} {M : Table} where
       root-lacks M q g at ts (ap (λ (y : ℕ). find (M .rows) q y) (sym (e ∙ root-byte g ts h)) ∙ k .none z)
 
   -- Where a rule is kept, its children and the trees below are left.
-  pub going-first : (t : Tree) (q f x : ℕ) → Stands F I S at levels M t → f ≡ getD S at 0 → Kept M q f x → (x ≡ 0 → ⊥)
-      → Going S at (levels - 1) q M t x 0 (at + 1)
-  going-first (node g ts) q f x h e k z =
+  pub walking-first : (t : Tree) (q f x : ℕ) → Stands F I S at levels M t → f ≡ getD S at 0 → Kept M q f x → (x ≡ 0 → ⊥)
+      → Walking S at (levels - 1) q M t x 0 (at + 1)
+  walking-first (node g ts) q f x h e k z =
       let a : Tells M q f x = k .some z in
       let u = a .rule in
       let i : find (M .rows) q g ≡ some u = ap (λ (y : ℕ). find (M .rows) q y) (sym (e ∙ root-byte g ts h)) ∙ a .ruled .found in (
