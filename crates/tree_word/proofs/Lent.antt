@@ -10,8 +10,8 @@ use lib.Seq.{take-all, take-append-add, take-append-le, length-take-le, drop-dro
 use Rattle.words.specs.Word.{Word}
 use Rattle.machine.specs.Machine.{Tree, Table}
 use Rattle.trees.specs.Shape.{depthMost}
-use Rattle.word_writer.specs.Penned.{Due, Tidy}
-use Rattle.word_writer.proofs.Going.{Pens}
+use Rattle.word_writer.specs.WordWritten.{Due, Tidy}
+use Rattle.word_writer.proofs.Writing.{Writes}
 
 -- A list that is no longer than w and has w in front is w.
 front-is : (ys w : List ℕ) → length ys ≤ length w → take (length w) ys ≡ w → ys ≡ w
@@ -68,23 +68,23 @@ module _ {F P : List ℕ} {letters : ℕ} {M : Table} {q : ℕ} {t : Tree} {w : 
 
   -- Exactly the word's part was lent.
   pub exactly-put : {s : ℕ} (R ys : List ℕ) (from : ℕ) → from + letters ≤ length R
-      → Pens F P depthMost 0 (length (take (from + letters - from) (drop from R))) ys s
+      → Writes F P depthMost 0 (length (take (from + letters - from) (drop from R))) ys s
       → Tidy (take (from + letters - from) (drop from R)) ys s → putMid from (from + letters - from) R ys ≡ take from R ++ w ++ drop (from + letters) R
-  exactly-put R ys from h pens tidy =
+  exactly-put R ys from h wrote tidy =
       let end : ℕ = from + letters in
       let l : length (take (end - from) (drop from R)) ≡ end - from = mid-len from end R h in
-      lent-exactly R ys w from end (omega arith) (pens M q t w (due-in _ (omega (arith, l))) .front) h (tidy .long)
+      lent-exactly R ys w from end (omega arith) (wrote M q t w (due-in _ (omega (arith, l))) .front) h (tidy .long)
 
   -- 32 bytes more were lent, and put back.
   pub more-put : {s : ℕ} (R R′ ys piece : List ℕ) (from : ℕ) → from + letters + 32 ≤ length R
       → piece ≡ take 32 (drop (from + letters) R)
-      → Pens F P depthMost 0 (length (take (from + letters + 32 - from) (drop from R))) ys s
+      → Writes F P depthMost 0 (length (take (from + letters + 32 - from) (drop from R))) ys s
       → Tidy (take (from + letters + 32 - from) (drop from R)) ys s
       → (let B = putMid from (from + letters + 32 - from) R ys in R′ ≡ take (from + letters) B ++ piece ++ drop (from + letters + length piece) B)
       → R′ ≡ take from R ++ w ++ drop (from + letters) R
-  more-put R R′ ys piece from h b pens tidy e =
+  more-put R R′ ys piece from h b wrote tidy e =
       let end : ℕ = from + letters in
       let l : length (take (end + 32 - from) (drop from R)) ≡ end + 32 - from = mid-len from (end + 32) R h in
       let B : List ℕ = putMid from (end + 32 - from) R ys in
       let n = ap (λ (k : ℕ). take end B ++ piece ++ drop (end + k) B) (sym (saved-long R piece end h b)) in
-      lent-more R ys w from end (omega arith) (pens M q t w (due-in _ (omega (arith, l))) .front) h (tidy .long) R′ piece b (e ∙ n)
+      lent-more R ys w from end (omega arith) (wrote M q t w (due-in _ (omega (arith, l))) .front) h (tidy .long) R′ piece b (e ∙ n)

@@ -19,7 +19,8 @@ use Rattle.trees.proofs.Levels.{no-level, levels-below}
 use Rattle.trees.proofs.Whole.{read-sound}
 use Rattle.layout.proofs.Stretches.{byte-here, byte-behind}
 use Rattle.walk.specs.Walked.{Wordless}
-use Rattle.measure.proofs.Held.{kids, Fitted}
+use Rattle.waiting.specs.Waiting.{kids}
+use Rattle.waiting.proofs.TreesFor.{Fitted}
 
 -- The bytes S are a tree by the definition, and state q of M has a word on it.
 pub record Worded (S : List ℕ) (M : Table) (q : ℕ) : Type 0 where
@@ -37,7 +38,7 @@ wordless {S} {M} {q} h t e = go (word M q t) refl
     go (some w) i = absurd (h (record { tree = t; read = e; letters-of = w; is = i }))
 
 -- Tree t is right for the waiting number v: ranked, within the levels left, with a word of the state.
-pub record Right (M : Table) (t : Tree) (v : ℕ) : Type 0 where
+pub record RightFor (M : Table) (t : Tree) (v : ℕ) : Type 0 where
   pub ranked : Ranked (M .arities) t
   pub levels : Levels t (depthMost - v / statesMost)
   pub letters-of : Word
@@ -48,7 +49,7 @@ abbrev pub Rights : Table → Forest → List ℕ → Type 0
 Rights M ∅ [] = Unit {0}
 Rights M ∅ (v ∷ vs) = ⊥
 Rights M (t ▸ ts) [] = ⊥
-Rights M (t ▸ ts) (v ∷ vs) = Right M t v × Rights M ts vs
+Rights M (t ▸ ts) (v ∷ vs) = RightFor M t v × Rights M ts vs
 
 -- The bytes bs are trees that are right for the waiting numbers vs.
 pub record Owed (M : Table) (vs bs : List ℕ) : Type 0 where
@@ -107,7 +108,7 @@ owed-kids M e (c ∷ cs) us others vs w k i r l h =
     }
 
 -- The root of the tree for the number v that comes next stands at `at`: its state has a rule, which writes on the trees below; behind these stand the others'.
-pub record Met (M : Table) (S : List ℕ) (at v : ℕ) (vs : List ℕ) : Type 0 where
+pub record RootMet (M : Table) (S : List ℕ) (at v : ℕ) (vs : List ℕ) : Type 0 where
   pub rule : Rule
   pub found : find (M .rows) (v % statesMost) (getD S at 0) ≡ some rule
   pub level : v / statesMost < depthMost
@@ -126,11 +127,11 @@ some-level t zero h = absurd (no-level t zero refl h)
 some-level t (suc n) h = omega arith
 
 -- A number that is owed a tree meets its root.
-met : (M : Table) (S : List ℕ) (at v : ℕ) (vs : List ℕ) → Owed M (v ∷ vs) (drop at S) → Met M S at v vs
+root-met : (M : Table) (S : List ℕ) (at v : ℕ) (vs : List ℕ) → Owed M (v ∷ vs) (drop at S) → RootMet M S at v vs
 unfolding preorder preorders
-met M S at v vs o = go (o .trees) (o .rights) (o .bytes)
+root-met M S at v vs o = go (o .trees) (o .rights) (o .bytes)
   where
-    go : (ts : Forest) → Rights M ts (v ∷ vs) → drop at S ≡ preorders ts → Met M S at v vs
+    go : (ts : Forest) → Rights M ts (v ∷ vs) → drop at S ≡ preorders ts → RootMet M S at v vs
     go ∅ h e = absurd h
     go (node f us ▸ others) h e =
         let a = word-parts M (v % statesMost) f us (h .0 .letters-of) (h .0 .is) in
@@ -186,7 +187,7 @@ owing-next {S} {M} {q} {v} {vs} {at} o r e f few =
   where
     next : Worded S M q → Owed M (kids (suc (v / statesMost)) (r .rest) ++ vs) (drop (suc at) S)
     next w =
-        let m = met M S at v vs (o .owed w) in
+        let m = root-met M S at v vs (o .owed w) in
         let i : m .rule ≡ r = Option·some-injective (m .rule) r (sym (m .found) ∙ e) in
         let h = subst (λ (x : Rule). words M (m .below) (x .rest) ≡ some (m .letters-of)) i (m .is) in
         subst (λ (x : List ℕ). Owed M (kids (suc (v / statesMost)) (r .rest) ++ vs) x) (sym (m .bytes))
@@ -213,4 +214,4 @@ owing-early {S} {M} {v = v} {vs = vs} {at = at} o l w = go (o .owed w .trees) (o
 -- The number that comes next meets a symbol for which its state has a rule, and has at most 63 symbols above it.
 pub owing-met : {S : List ℕ} {M : Table} {q v : ℕ} {vs : List ℕ} {at : ℕ} → Owing S M q (v ∷ vs) at → Worded S M q
     → (r : Rule) × (find (M .rows) (v % statesMost) (getD S at 0) ≡ some r) × (v < statesMost * depthMost)
-owing-met {S} {M} {q} {v} {vs} {at} o w = let m = met M S at v vs (o .owed w) in (m .rule, m .found, omega (arith, m .level))
+owing-met {S} {M} {q} {v} {vs} {at} o w = let m = root-met M S at v vs (o .owed w) in (m .rule, m .found, omega (arith, m .level))

@@ -1,4 +1,4 @@
--- Trees for the states that wait. A waiting number is a state, and the most states that there may be for each symbol above it.
+-- Trees for the numbers that wait.
 use mathlib.Core.Path.{_≡_, refl, sym, ap, subst, _∙_}
 use mathlib.Core.List.{List, [], _∷_, _++_, append-assoc}
 use mathlib.Core.Option.{some}
@@ -14,10 +14,11 @@ use Rattle.trees.specs.Shape.{depthMost}
 use Rattle.trees.specs.Preorder.{preorder, preorders, Levels, Levelss}
 use Rattle.layout.specs.Layout.{restLetters, ruleLetters}
 use Rattle.walk.specs.Plan.{Names, Planned, Planneds}
+use Rattle.waiting.specs.Waiting.{kids}
 
 -- Tree t at place `at` is right for the waiting number v: ranked, within the levels left, with a word of the state, its rules planned.
 -- The word is the first of several, which have n letters in all.
-pub record Front (F P : List ℕ) (M : Table) (t : Tree) (v at n : ℕ) : Type 0 where
+pub record TreeFor (F P : List ℕ) (M : Table) (t : Tree) (v at n : ℕ) : Type 0 where
   pub ranked : Ranked (M .arities) t
   pub levels : Levels t (depthMost - v / statesMost)
   pub letters-of : Word
@@ -27,16 +28,11 @@ pub record Front (F P : List ℕ) (M : Table) (t : Tree) (v at n : ℕ) : Type 0
   pub letters : n ≡ length letters-of + more
 
 -- The trees, one after the other from place `at` on, are right for the waiting numbers, with n letters in all.
-abbrev pub Held : List ℕ → List ℕ → Table → Forest → List ℕ → ℕ → ℕ → Type 0
-Held F P M ∅ [] at n = n ≡ 0
-Held F P M ∅ (v ∷ vs) at n = ⊥
-Held F P M (t ▸ ts) [] at n = ⊥
-Held F P M (t ▸ ts) (v ∷ vs) at n = (h : Front F P M t v at n) × Held F P M ts vs (at + length (preorder t)) (h .more)
-
--- The waiting numbers of a rule's children with e symbols above them.
-abbrev pub kids : ℕ → List Child → List ℕ
-kids e [] = []
-kids e (c ∷ cs) = (statesMost * e + c .state) ∷ kids e cs
+abbrev pub TreesFor : List ℕ → List ℕ → Table → Forest → List ℕ → ℕ → ℕ → Type 0
+TreesFor F P M ∅ [] at n = n ≡ 0
+TreesFor F P M ∅ (v ∷ vs) at n = ⊥
+TreesFor F P M (t ▸ ts) [] at n = ⊥
+TreesFor F P M (t ▸ ts) (v ∷ vs) at n = (h : TreeFor F P M t v at n) × TreesFor F P M ts vs (at + length (preorder t)) (h .more)
 
 -- Trees for a rule's children and for others: the first are right for the rest of the rule, the others for what waits behind.
 record Parted (F P : List ℕ) (M : Table) (ts : Forest) (e : ℕ) (cs : List Child) (vs : List ℕ) (at n : ℕ) : Type 0 where
@@ -51,11 +47,11 @@ record Parted (F P : List ℕ) (M : Table) (ts : Forest) (e : ℕ) (cs : List Ch
   planned : Planneds F P M trees cs at
   more : ℕ
   letters : n + restLetters cs ≡ length letters-of + more
-  behind : Held F P M others vs (at + length (preorders trees)) more
+  behind : TreesFor F P M others vs (at + length (preorders trees)) more
 
 module _ (F P : List ℕ) (M : Table) (e : ℕ) (vs : List ℕ) where
   -- No child: all trees are the others'.
-  part-none : (ts : Forest) (at n : ℕ) → Held F P M ts vs at n → Parted F P M ts e [] vs at n
+  part-none : (ts : Forest) (at n : ℕ) → TreesFor F P M ts vs at n → Parted F P M ts e [] vs at n
   unfolding preorders Levelss words Planneds restLetters
   part-none ts at n h =
       let z : at ≡ at + 0 = omega arith in
@@ -71,11 +67,11 @@ module _ (F P : List ℕ) (M : Table) (e : ℕ) (vs : List ℕ) where
         planned = tt;
         more = n;
         letters = omega arith;
-        behind = subst (λ (a : ℕ). Held F P M ts vs a n) z h;
+        behind = subst (λ (a : ℕ). TreesFor F P M ts vs a n) z h;
       }
 
   -- A child: the first tree is its own.
-  part-child : (t : Tree) (ts : Forest) (c : Child) (cs : List Child) (at n : ℕ) → c .state < statesMost → (h : Front F P M t (statesMost * e + c .state) at n)
+  part-child : (t : Tree) (ts : Forest) (c : Child) (cs : List Child) (at n : ℕ) → c .state < statesMost → (h : TreeFor F P M t (statesMost * e + c .state) at n)
       → Parted F P M ts e cs vs (at + length (preorder t)) (h .more) → Parted F P M (t ▸ ts) e (c ∷ cs) vs at n
   unfolding preorders Levelss Planneds restLetters
   part-child t ts c cs at n k h p =
@@ -98,12 +94,12 @@ module _ (F P : List ℕ) (M : Table) (e : ℕ) (vs : List ℕ) where
         planned = (rw q at (h .planned), p .planned);
         more = p .more;
         letters = omega (arith, h .letters, p .letters, length-append x (c .after ++ y), length-append (c .after) y);
-        behind = subst (λ (a : ℕ). Held F P M (p .others) vs a (p .more)) z (p .behind);
+        behind = subst (λ (a : ℕ). TreesFor F P M (p .others) vs a (p .more)) z (p .behind);
       }
 
   -- Trees for a rule's children and for others part.
   part : (cs : List Child) (ts : Forest) (at n : ℕ) → Each (λ c ds. c .state < statesMost) cs
-      → Held F P M ts (kids e cs ++ vs) at n → Parted F P M ts e cs vs at n
+      → TreesFor F P M ts (kids e cs ++ vs) at n → Parted F P M ts e cs vs at n
   part [] ts at n k h = part-none ts at n h
   part (c ∷ cs) ∅ at n k h = absurd h
   part (c ∷ cs) (t ▸ ts) at n k h = part-child t ts c cs at n (k .0) (h .0) (part cs ts (at + length (preorder t)) (h .0 .more) (k .1) (h .1))
@@ -118,7 +114,7 @@ pub record Fitted (M : Table) (f : ℕ) (r : Rule) : Type 0 where
 -- Trees for the waiting numbers vs, whose symbols in preorder are the bytes bs.
 pub record Forested (F P : List ℕ) (M : Table) (vs : List ℕ) (at n : ℕ) (bs : List ℕ) : Type 0 where
   pub trees : Forest
-  pub held : Held F P M trees vs at n
+  pub held : TreesFor F P M trees vs at n
   pub bytes : bs ≡ preorders trees
 
 -- A symbol with the trees below it: right for the number v, where the rule of v's state is planned there and the trees are right for its children.
@@ -143,7 +139,7 @@ grown {F} {P} {M} f v r {ts} {vs} {at} {n} l e i m p =
           more = p .more;
           letters = omega (arith, p .letters, length-append (r .first) w);
         },
-        subst (λ (a : ℕ). Held F P M (p .others) vs a (p .more)) z (p .behind),
+        subst (λ (a : ℕ). TreesFor F P M (p .others) vs a (p .more)) z (p .behind),
       );
       bytes = ap (λ (l : List ℕ). f ∷ l) (p .bytes);
     }
@@ -151,5 +147,5 @@ grown {F} {P} {M} f v r {ts} {vs} {at} {n} l e i m p =
 -- Trees for a rule's children and for others give trees for the number that the rule is for and the others.
 pub forested : {F P : List ℕ} {M : Table} (f v : ℕ) (r : Rule) (ts : Forest) {vs : List ℕ} {at : ℕ} (n : ℕ) → v < statesMost * depthMost
     → find (M .rows) (v % statesMost) f ≡ some r → Fitted M f r → Names F (getD P at 0) r
-    → Held F P M ts (kids (suc (v / statesMost)) (r .rest) ++ vs) (suc at) n → Forested F P M (v ∷ vs) at (ruleLetters r + n) (f ∷ preorders ts)
+    → TreesFor F P M ts (kids (suc (v / statesMost)) (r .rest) ++ vs) (suc at) n → Forested F P M (v ∷ vs) at (ruleLetters r + n) (f ∷ preorders ts)
 forested {F} {P} {M} f v r ts {vs} {at} n l e i m h = grown f v r l e i m (part F P M (suc (v / statesMost)) vs (r .rest) ts (suc at) n (i .states) h)

@@ -8,23 +8,12 @@ use lib.Seq.{getD-set-same, getD-set-other}
 use Rattle.machine.specs.Machine.{Child}
 use Rattle.text.specs.Limits.{statesMost, arityMost}
 use Rattle.layout.specs.Leaves.{stateNo}
-use Rattle.measure.specs.Tallied.{NextIs}
-use Rattle.measure.proofs.Held.{kids}
-
--- The numbers at places n, n - 1, .. and 1.
-abbrev pub under : List ℕ → ℕ → List ℕ
-under W zero = []
-under W (suc n) = getD W (suc n) 0 ∷ under W n
+use Rattle.waiting.specs.Waiting.{kids, under, waits, NextIs}
 
 -- There are as many.
 pub under-long : (W : List ℕ) (n : ℕ) → length (under W n) ≡ n
 under-long W zero = refl
 under-long W (suc n) = ap suc (under-long W n)
-
--- What waits where the stack has `top` places: none if it has none left.
-abbrev pub waits : List ℕ → ℕ → ℕ → List ℕ
-waits W zero next = []
-waits W (suc n) next = next ∷ under W n
 
 -- What waits where there is a place left.
 pub waits-some : (W : List ℕ) (top next : ℕ) → 0 < top → waits W top next ≡ next ∷ under W (top - 1)
@@ -32,7 +21,7 @@ waits-some W zero next h = absurd (omega arith)
 waits-some W (suc n) next h = let e : suc n - 1 ≡ n = omega arith in rw e refl
 
 -- The stack W′ is the stack W up to place n, and then holds a, b and c.
-pub record Stored (W W′ : List ℕ) (n a b c : ℕ) : Type 0 where
+pub record ThreeStored (W W′ : List ℕ) (n a b c : ℕ) : Type 0 where
   pub kept : (i : ℕ) → i ≤ n → getD W′ i 0 ≡ getD W i 0
   pub one : getD W′ (suc n) 0 ≡ a
   pub two : getD W′ (suc (suc n)) 0 ≡ b
@@ -40,7 +29,7 @@ pub record Stored (W W′ : List ℕ) (n a b c : ℕ) : Type 0 where
 
 -- Three stores make it so.
 pub stored : (W : List ℕ) (n i j k a b c : ℕ) → i ≡ suc n → j ≡ suc (suc n) → k ≡ suc (suc (suc n)) → k < length W
-    → Stored W (set (set (set W i a) j b) k c) n a b c
+    → ThreeStored W (set (set (set W i a) j b) k c) n a b c
 stored W n i j k a b c x y z l =
     let li = length-set W i a in
     let lj = length-set (set W i a) j b in
@@ -71,14 +60,14 @@ abbrev pub Behind : List Child → ℕ → ℕ → ℕ → Type 0
 Behind cs e n a = (j : ℕ) → suc (suc j) + n ≡ length cs → a ≡ statesMost * e + stateNo cs (suc j)
 
 -- The waiting numbers of the first, the last, the last but one and the last but two of a rule's children with e symbols above them.
-pub record Told (cs : List Child) (e u a b c : ℕ) : Type 0 where
+pub record ChildNumbers (cs : List Child) (e u a b c : ℕ) : Type 0 where
   pub first : u ≡ statesMost * e + stateNo cs 0
   pub last : Behind cs e 0 a
   pub second : Behind cs e 1 b
   pub third : Behind cs e 2 c
 
 -- A rule's children come on top of what waits, the first child next, then the second.
-pub push : (W W′ : List ℕ) (n e u a b c next top : ℕ) (cs : List Child) → length cs ≤ arityMost → Told cs e u a b c → Stored W W′ n a b c
+pub push : (W W′ : List ℕ) (n e u a b c next top : ℕ) (cs : List Child) → length cs ≤ arityMost → ChildNumbers cs e u a b c → ThreeStored W W′ n a b c
     → NextIs (length cs) (getD W n 0) u next → top ≡ n + length cs → waits W′ top next ≡ kids e cs ++ under W n
 unfolding stateNo
 push W W′ n e u a b c next top [] l t s x d = let z : top ≡ n = omega arith in rw z (pop W W′ n next (s .kept) (x .none refl))

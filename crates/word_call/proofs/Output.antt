@@ -15,10 +15,11 @@ use Rattle.promises.specs.Word.{wordOn, wordInto}
 use Rattle.layout.specs.Layout.{Opened}
 use Rattle.words.specs.declared.No.{No}
 use Rattle.walk.specs.Walked.{Wordless}
-use Rattle.measure.specs.declared.Tally.{Tally}
-use Rattle.measure.specs.declared.Tally.the-variants as tally
-use Rattle.measure.specs.Tallied.{Counted, Tallied, Few}
-use Rattle.word_writer.specs.Penned.{Due}
+use Rattle.walk.specs.Plan.{Counted}
+use Rattle.measure.specs.declared.TreeMeasure.{TreeMeasure}
+use Rattle.measure.specs.declared.TreeMeasure.the-variants as measured
+use Rattle.measure.specs.Measures.{MeasureOf, Few}
+use Rattle.word_writer.specs.WordWritten.{Due}
 use Rattle.why_no_word.specs.declared.WordAnswer.{WordAnswer}
 use Rattle.why_no_word.specs.declared.WordAnswer.the-variants as found
 use Rattle.why_no_word.specs.Answer.{Answers}
@@ -27,13 +28,13 @@ use Rattle.why_no_word.proofs.Read.{into-no, into-word}
 use Rattle.word_call.proofs.Room.{three-filled}
 
 -- u and v are the words of the initial rule, and the tree that the bytes S are was counted.
-pub record Ready (F I S P : List ℕ) (letters : ℕ) (u v : Word) (M : Table) : Type 0 where
+pub record Output (F I S P : List ℕ) (letters : ℕ) (u v : Word) (M : Table) : Type 0 where
   pub opened : Opened F I M
   pub counted : Counted F S P M (M .start) letters
   pub first : u ≡ M .before
   pub last : v ≡ M .after
 
-module _ {F I S P : List ℕ} {letters : ℕ} {u v : Word} {M : Table} (b : Ready F I S P letters u v M) where
+module _ {F I S P : List ℕ} {letters : ℕ} {u v : Word} {M : Table} (b : Output F I S P letters u v M) where
   -- The output is the three words, one behind the other.
   output-is : u ++ b .counted .letters-of ++ v ≡ M .before ++ b .counted .letters-of ++ M .after
   output-is = cc (b .first, b .last)
@@ -43,21 +44,21 @@ module _ {F I S P : List ℕ} {letters : ℕ} {u v : Word} {M : Table} (b : Read
   output-long = simp length-append (omega (arith, b .counted .many))
 
   -- The definition's answer is that for the three words.
-  ready-answer : {r : WordAnswer} (R R′ : List ℕ) → Answers (into (length R) (given (u ++ b .counted .letters-of ++ v))) R R′ r
+  output-answer : {r : WordAnswer} (R R′ : List ℕ) → Answers (into (length R) (given (u ++ b .counted .letters-of ++ v))) R R′ r
       → Answers (wordInto M S (length R)) R R′ r
-  ready-answer {r} R R′ a =
+  output-answer {r} R R′ a =
       let k = b .counted in
       let e = read-complete (M .arities) S (k .tree) (k .bytes) (k .ranked) (k .levels) (k .size) in
       subst⁻¹ (λ (x : Reply Word). Answers x R R′ r) (into-word M S (k .tree) e (length R) (k .letters-of) (k .is)) (rw output-is at a)
 
   -- A room that is too short is refused with the length of the three.
-  pub ready-short : {r : WordAnswer} (R : List ℕ) → length R < length u + letters + length v
+  pub output-short : {r : WordAnswer} (R : List ℕ) → length R < length u + letters + length v
       → r ≡ found.Refused (record { number = 12; place = length u + letters + length v }) → Answers (wordInto M S (length R)) R R r
-  ready-short R h e = ready-answer R R (short-said R (u ++ b .counted .letters-of ++ v) (length u + letters + length v) output-long h e)
+  output-short R h e = output-answer R R (short-said R (u ++ b .counted .letters-of ++ v) (length u + letters + length v) output-long h e)
 
   -- Writing by the plan is due.
-  ready-due : Due F P 0 depthMost letters M (M .start) (b .counted .tree) (b .counted .letters-of)
-  ready-due =
+  output-due : Due F P 0 depthMost letters M (M .start) (b .counted .tree) (b .counted .letters-of)
+  output-due =
       let k = b .counted in
       let s : length (preorder (k .tree)) ≤ treeMost = rw (k .bytes) at (k .size) in
       record {
@@ -70,35 +71,35 @@ module _ {F I S P : List ℕ} {letters : ℕ} {u v : Word} {M : Table} (b : Read
       }
 
   -- In a room that is long enough, u is put at its front, the tree's word behind it, and v behind that.
-  pub ready-fits : {r : WordAnswer} (R R₁ R₂ R₃ : List ℕ) (from n : ℕ) → length u + letters + length v ≤ length R
+  pub output-fits : {r : WordAnswer} (R R₁ R₂ R₃ : List ℕ) (from n : ℕ) → length u + letters + length v ≤ length R
       → R₁ ≡ take 0 R ++ u ++ drop (0 + length u) R → from ≡ 0 + length u
       → ((M : Table) (q : ℕ) (t : Tree) (w : Word) → Due F P 0 depthMost letters M q t w → letters ≡ length w
       → R₂ ≡ take from R₁ ++ w ++ drop (from + letters) R₁)
       → R₃ ≡ take (from + letters) R₂ ++ v ++ drop (from + letters + length v) R₂
       → n ≡ terms (take (length u + letters + length v) R₃) → r ≡ found.Found (record { length = length u + letters + length v; terms = n })
       → Answers (wordInto M S (length R)) R R₃ r
-  ready-fits R R₁ R₂ R₃ from n h e₁ ef wrote e₃ en er =
+  output-fits R R₁ R₂ R₃ from n h e₁ ef wrote e₃ en er =
       let k = b .counted in
       let w : Word = k .letters-of in
-      let y = wrote M (M .start) (k .tree) w ready-due (k .many) in
-      ready-answer R R₃
+      let y = wrote M (M .start) (k .tree) w output-due (k .many) in
+      output-answer R R₃
       (word-said R R₃ (u ++ w ++ v) (length u + letters + length v) n output-long en h er
       (three-filled R R₁ R₂ R₃ u w v from e₁ ef
       (subst (λ (x : ℕ). R₂ ≡ take from R₁ ++ w ++ drop (from + x) R₁) (k .many) y)
       (subst (λ (x : ℕ). R₃ ≡ take (from + x) R₂ ++ v ++ drop (from + x + length v) R₂) (k .many) e₃)))
 
--- What a tally that counted says.
-pub tally-counted : {F S P : List ℕ} {M : Table} {q : ℕ} {r : Tally} (letters : ℕ) → Tallied F S P M q r → r ≡ tally.Counted letters → Counted F S P M q letters
-tally-counted {F} {S} {P} {M} {q} letters h e = subst (λ (x : Tally). Tallied F S P M q x) e h
+-- What a measure that counted says.
+pub measured-counted : {F S P : List ℕ} {M : Table} {q : ℕ} {r : TreeMeasure} (letters : ℕ) → MeasureOf F S P M q r → r ≡ measured.Counted letters → Counted F S P M q letters
+measured-counted {F} {S} {P} {M} {q} letters h e = subst (λ (x : TreeMeasure). MeasureOf F S P M q x) e h
 
 -- It counted few letters.
-pub tally-few : (r : Tally) (letters : ℕ) → Few r → r ≡ tally.Counted letters → letters ≤ 8388608
-tally-few r letters h e = rw e at h
+pub measured-few : (r : TreeMeasure) (letters : ℕ) → Few r → r ≡ measured.Counted letters → letters ≤ 8388608
+measured-few r letters h e = rw e at h
 
--- What a tally that did not count says: why there is no word is the answer.
-pub tally-other : {F I : List ℕ} (S P : List ℕ) {M : Table} (r : Tally) {why : No} (R : List ℕ) → Tallied F S P M (M .start) r
-    → r ≡ tally.Other → Opened F I M → ((M : Table) → Opened F I M → Wordless M S (M .start) → wordOn M S ≡ refused (why .number) (why .place))
+-- What a measure that did not count says: why there is no word is the answer.
+pub measured-other : {F I : List ℕ} (S P : List ℕ) {M : Table} (r : TreeMeasure) {why : No} (R : List ℕ) → MeasureOf F S P M (M .start) r
+    → r ≡ measured.Other → Opened F I M → ((M : Table) → Opened F I M → Wordless M S (M .start) → wordOn M S ≡ refused (why .number) (why .place))
     → Answers (wordInto M S (length R)) R R (found.Refused why)
-tally-other {F} {I} S P {M} r {why} R h e o told =
-    let n = subst (λ (x : Tally). Tallied F S P M (M .start) x) e h in
+measured-other {F} {I} S P {M} r {why} R h e o told =
+    let n = subst (λ (x : TreeMeasure). MeasureOf F S P M (M .start) x) e h in
     refused-said R (why .number) (why .place) (into-no M S (length R) (why .number) (why .place) (told M o n)) refl

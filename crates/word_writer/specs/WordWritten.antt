@@ -21,7 +21,7 @@ pub record Due (F P : List ℕ) (at allowed room : ℕ) (M : Table) (q : ℕ) (t
   pub fits : length w ≤ room
 
 -- The word stands at the room's front; what lies behind it is the lender's to set right. The answer holds the word's length and the place behind the tree.
-pub record Penned (w : Word) (at n : ℕ) (R′ : List ℕ) (r : ℕ) : Type 0 where
+pub record WordWritten (w : Word) (at n : ℕ) (R′ : List ℕ) (r : ℕ) : Type 0 where
   pub answer : r ≡ length w * 65536 + (at + n)
   pub front : take (length w) R′ ≡ w
 
@@ -38,6 +38,6 @@ pub record GoesOn (lower next p : ℕ) : Type 0 where
   pub spot : p < framesSize
 
 -- Whatever the bytes are: the place behind is behind its own, and past the plan's end nothing is written.
-pub record Onward (at r : ℕ) : Type 0 where
+pub record EndsBehind (at r : ℕ) : Type 0 where
   pub behind : at < treeMost → at < r % 65536
   pub past : treeMost ≤ at → r ≡ treeMost

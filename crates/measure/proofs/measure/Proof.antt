@@ -6,36 +6,36 @@ use native.Mathlib.Omega.{arith}
 use borrow.Author.Needs.{needs}
 use borrow.Author.Tests.{not-true, not-false}
 use lib.ListN.{length, getD}
-use Rattle.measure.specs.Tallied.{Usual}
-use Rattle.measure.proofs.Turn.{Tallying, not-ready, tallying-first, tallying-next, tallying-last, tallying-few}
-use Rattle.measure.proofs.Turn.{KeptAt, tallying-unusual, tallying-state, tallying-lacking, tallying-early}
+use Rattle.measure.specs.Measures.{Usual}
+use Rattle.measure.proofs.Turn.{Measuring, not-measurable, measuring-first, measuring-next, measuring-last, measuring-few}
+use Rattle.measure.proofs.Turn.{KeptAt, measuring-unusual, measuring-state, measuring-lacking, measuring-early}
 use Rattle.measure.proofs.measure.Statement.{statement}
 use Rattle.measure.proofs.measure.Tie as tie
 
 abbrev Inv-loop : tie.InvT-loop
-Inv-loop numbers tree plan₀ waiting₀ top₀ next₀ sum₀ at₀ plan waiting top next sum at = Tallying numbers tree plan waiting top next sum at
+Inv-loop numbers tree plan₀ stack₀ top₀ next₀ sum₀ at₀ plan stack top next sum at = Measuring numbers tree plan stack top next sum at
 
 abbrev μ-loop : tie.MeasureT-loop
-μ-loop numbers tree plan₀ waiting₀ top₀ next₀ sum₀ at₀ plan waiting top next sum at = length tree - at
+μ-loop numbers tree plan₀ stack₀ top₀ next₀ sum₀ at₀ plan stack top next sum at = length tree - at
 
 returns : tie.Need-returns Inv-loop μ-loop
 returns c =
     let a = c .before .before .before .before .before .args in
-    (λ F M o. not-ready (a .tree .now) (a .plan .now) (search needs) (c .before .ready .ensures .if-false (not-true _ (c .if1 .taken))) M (M .start), tt)
+    (λ F M o. not-measurable (a .tree .now) (a .plan .now) (search needs) (c .before .ready .ensures .if-false (not-true _ (c .if1 .taken))) M (M .start), tt)
 
 loop-holds : tie.Need-loop-holds Inv-loop μ-loop
 loop-holds c =
     let d = c .before .before in
     let a = d .before .before .before .before .before .args in
     let r = d .before .ready .ensures .if-true (not-false _ (d .if1 .left)) in
-    tallying-first (a .numbers .now) (a .tree .now) _ _ (c .start .result) (r .short) (r .places) refl (c .start .ensures .1)
+    measuring-first (a .numbers .now) (a .tree .now) _ _ (c .start .result) (r .short) (r .places) refl (c .start .ensures .1)
 
 returns-2 : tie.Need-returns-2 Inv-loop μ-loop
 returns-2 c =
     let t = c .before .before .before .before in
     let l = t .before .loop in
     let w = c .before .before .wide in (
-      λ F M o. tallying-unusual (l .inv) F M o (t .loop-test .taken)
+      λ F M o. measuring-unusual (l .inv) F M o (t .loop-test .taken)
           (λ u. c .before .usual .ensures .if-false (not-true _ (c .if2 .taken)) (rw (w .ensures .0) u)),
       tt,
     )
@@ -62,7 +62,7 @@ returns-3 c =
     let k = c .before in
     let l = k .before .before .before .before .before .before .before .loop in
     let h = met (k .before .before) .waits in
-    (λ F M o. tallying-lacking (l .inv) F M o h _ (kept k F M o (tallying-state (l .inv) F M o h)) (c .if3 .taken), tt)
+    (λ F M o. measuring-lacking (l .inv) F M o h _ (kept k F M o (measuring-state (l .inv) F M o h)) (c .if3 .taken), tt)
 
 level-below-requires : tie.Need-level-below-requires Inv-loop μ-loop
 level-below-requires c κs = met (c .before .before .before .before .before .before) .levels
@@ -70,8 +70,8 @@ level-below-requires c κs = met (c .before .before .before .before .before .bef
 sub-below : tie.Need-sub-below Inv-loop μ-loop
 sub-below c = met (c .before .before .before .before .before .before .before) .waits
 
-array-write-waiting-4 : tie.Need-array-write-waiting-4 Inv-loop μ-loop
-array-write-waiting-4 c =
+array-write-stack-4 : tie.Need-array-write-stack-4 Inv-loop μ-loop
+array-write-stack-4 c =
     let begun = c .before .before .before .before .before .before .before .before in
     omega (arith, met (begun .before .before .before .before .before .before) .room)
 
@@ -89,7 +89,7 @@ loop-again c =
     let k = counted .before .before .before .before in
     let t = k .before .before .before .before .before .before in
     let l = t .before .loop in
-    tallying-next (l .inv) _ (t .loop-test .taken)
+    measuring-next (l .inv) _ (t .loop-test .taken)
     (subst (λ (f : ℕ). Usual f (l .next) (l .top)) (k .before .before .before .before .wide .ensures .0) (met (k .before .before)))
     (kept k) (counted .before .before .before .if3 .left)
     (record {
@@ -114,11 +114,11 @@ loop-again c =
 
 returns-4 : tie.Need-returns-4 Inv-loop μ-loop
 returns-4 c =
-    (λ F M o. tallying-early (c .before .before .loop .inv) F M o (c .before .loop-test .left) (c .if4 .taken), tt)
+    (λ F M o. measuring-early (c .before .before .loop .inv) F M o (c .before .loop-test .left) (c .if4 .taken), tt)
 
 returns-5 : tie.Need-returns-5 Inv-loop μ-loop
 returns-5 c =
-    (tallying-last (c .before .before .loop .inv) (c .before .loop-test .left) (c .if4 .left), tallying-few (c .before .before .loop .inv))
+    (measuring-last (c .before .before .loop .inv) (c .before .loop-test .left) (c .if4 .left), measuring-few (c .before .before .loop .inv))
 
 pub measure-spec : {M : Type 1} → statement M
 measure-spec =
@@ -161,7 +161,7 @@ measure-spec =
     (λ c κs. search needs)
     (λ c. search needs)
     (λ c. search needs)
-    array-write-waiting-4
+    array-write-stack-4
     (λ c κs. search needs)
     (λ c κs. search needs)
     (λ c. search needs)

@@ -6,8 +6,8 @@ use borrow.Author.Needs.{needs}
 use lib.ListN.{length, take, drop, length-set}
 use lib.Seq.{take-all}
 use Rattle.layout.proofs.Putting.{piece-grows}
-use Rattle.word_call.proofs.saved.Statement.{statement}
-use Rattle.word_call.proofs.saved.Tie as tie
+use Rattle.tree_word.proofs.saved.Statement.{statement}
+use Rattle.tree_word.proofs.saved.Tie as tie
 
 abbrev Inv-loop : tie.InvT-loop
 Inv-loop room at piece₀ i₀ piece i = (i ≤ 32) × (take i piece ≡ take i (drop at room)) × (length piece ≡ 32)
@@ -17,21 +17,6 @@ abbrev μ-loop : tie.MeasureT-loop
 
 loop-holds : tie.Need-loop-holds Inv-loop μ-loop
 loop-holds c = (search needs, refl, refl)
-
-add-piece : tie.Need-add-piece Inv-loop μ-loop
-add-piece c = search needs
-
-shared-slice-read-piece : tie.Need-shared-slice-read-piece Inv-loop μ-loop
-shared-slice-read-piece c = search needs
-
-array-write-piece : tie.Need-array-write-piece Inv-loop μ-loop
-array-write-piece c = search needs
-
-add-i : tie.Need-add-i Inv-loop μ-loop
-add-i c = search needs
-
-loop-less : tie.Need-loop-less Inv-loop μ-loop
-loop-less c = search needs
 
 loop-again : tie.Need-loop-again Inv-loop μ-loop
 loop-again c =
@@ -56,10 +41,10 @@ saved-spec =
     Inv-loop
     μ-loop
     loop-holds
-    add-piece
-    shared-slice-read-piece
-    array-write-piece
-    add-i
-    loop-less
+    (λ c. search needs)
+    (λ c. search needs)
+    (λ c. search needs)
+    (λ c. search needs)
+    (λ c. search needs)
     loop-again
     returns)

@@ -1,0 +1,28 @@
+-- The numbers that wait while a tree is measured. A waiting number is a state, and the most states that there may be for each symbol above it.
+-- Definitions only.
+use mathlib.Core.Path.{_≡_}
+use mathlib.Core.List.{List, [], _∷_}
+use Prim.Native.Nat.{ℕ, zero, suc, _+_, _*_, _<_}
+use lib.ListN.{getD}
+use Rattle.machine.specs.Machine.{Child}
+use Rattle.text.specs.Limits.{statesMost}
+
+-- The waiting numbers of a rule's children with e symbols above them.
+abbrev pub kids : ℕ → List Child → List ℕ
+kids e [] = []
+kids e (c ∷ cs) = (statesMost * e + c .state) ∷ kids e cs
+
+-- The numbers at places n, n - 1, .. and 1.
+abbrev pub under : List ℕ → ℕ → List ℕ
+under W zero = []
+under W (suc n) = getD W (suc n) 0 ∷ under W n
+
+-- What waits where the stack has `top` places: none if it has none left.
+abbrev pub waits : List ℕ → ℕ → ℕ → List ℕ
+waits W zero next = []
+waits W (suc n) next = next ∷ under W n
+
+-- The number that comes next behind a rule with k children: what waits below it if there are none, else the first child's.
+pub record NextIs (k below first next : ℕ) : Type 0 where
+  pub none : k ≡ 0 → next ≡ below
+  pub some : 0 < k → next ≡ first

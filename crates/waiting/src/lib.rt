@@ -1,0 +1,29 @@
+// The numbers that wait while a tree is measured: a state, with a unit for each symbol above it.
+ghost use mathlib.Core.Path.{_≡_};
+ghost use Prim.Native.Nat.{suc, _+_, _*_, _/_, _<_, _≤_};
+ghost use Rattle.text.specs.Limits.{statesMost};
+ghost use Rattle.trees.specs.Shape.{depthMost};
+ghost use Rattle.waiting.specs.Waiting.{NextIs};
+
+// The level of a waiting number's children: a unit for each symbol above them.
+pub fn level_below(next: usize) -> usize
+    requires { ⌜ next < statesMost * depthMost ⌝ }
+    ensures { λ r. ⌜ (r ≡ statesMost * suc (next / statesMost)) × (r ≤ statesMost * depthMost) ⌝ }
+{
+    next - next % layout::STATES + layout::STATES
+}
+
+// The waiting number of a child behind the first: its state, with a unit for each symbol above it.
+pub fn child(level: usize, state: usize) -> u16
+    requires { ⌜ (level ≤ statesMost * depthMost) × (state < statesMost) ⌝ }
+    ensures { λ r. ⌜ r ≡ level + state ⌝ }
+{
+    (level + state) as u16
+}
+
+// The number that comes next: what waits below if a rule has no children, else the first child's.
+pub fn next_of(kids: usize, below: u16, first: usize) -> usize
+    ensures { λ r. ⌜ NextIs kids below first r ⌝ }
+{
+    if kids == 0 { below as usize } else { first }
+}
