@@ -14,10 +14,10 @@ use Rattle.layout.specs.Layout.{ruleLetters, Opened}
 use Rattle.layout.specs.Leaves.{Holds, Tells, Kept, stateNo}
 use Rattle.walk.specs.Walked.{Wordless}
 use Rattle.walk.specs.Plan.{Names, Counted}
-use Rattle.waiting.specs.Waiting.{kids, under, waits, NextIs}
+use Rattle.waiting.specs.Waiting.{kids, under, waits, NextIs, Usual}
 use Rattle.waiting.proofs.WholeFrom.{WholeFrom, whole-first, whole-next, whole-last}
 use Rattle.waiting.proofs.Waits.{under-long, waits-some, stored, Behind, push}
-use Rattle.measure.specs.Measures.{Measurable, Usual}
+use Rattle.measure.specs.Measures.{Measurable}
 use Rattle.measure.proofs.Ruled.{told-fits, found-symbol, found-kept}
 use Rattle.waiting.proofs.Owed.{Worded, wordless, Owing, owing-first, owing-next, owing-none, owing-early, owing-met}
 

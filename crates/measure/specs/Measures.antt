@@ -1,9 +1,8 @@
 -- What measuring answers. Definitions only.
 use mathlib.Core.List.{List}
-use Prim.Native.Nat.{ℕ, _*_, _<_, _≤_}
+use Prim.Native.Nat.{ℕ, _<_, _≤_}
 use lib.ListN.{length}
-use Rattle.text.specs.Limits.{symbolsMost, statesMost}
-use Rattle.trees.specs.Shape.{treeMost, depthMost}
+use Rattle.trees.specs.Shape.{treeMost}
 use Rattle.machine.specs.Machine.{Table}
 use Rattle.walk.specs.Plan.{Counted}
 use Rattle.walk.specs.Walked.{Wordless}
@@ -25,11 +24,3 @@ pub record Measurable (S P : List ℕ) : Type 0 where
   pub some : 0 < length S
   pub short : length S ≤ treeMost
   pub places : length S ≤ length P
-
--- A turn meets a symbol f and a waiting number that tables may have, with at most 63 symbols above it; the stack of `top` places has one to give, and
--- room for three. A waiting number is a state, and the most states that there may be for each symbol above it.
-pub record Usual (f next top : ℕ) : Type 0 where
-  pub symbol : f < symbolsMost
-  pub levels : next < statesMost * depthMost
-  pub waits : 0 < top
-  pub room : top ≤ 200

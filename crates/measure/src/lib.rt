@@ -7,7 +7,7 @@ ghost use Rattle.machine.specs.Machine.{Table};
 ghost use Rattle.layout.specs.Layout.{Opened};
 ghost use Rattle.layout.specs.Leaves.{Tells};
 ghost use Rattle.walk.specs.Plan.{Names};
-ghost use Rattle.measure.specs.Measures.{MeasureOf, Few, Measurable, Usual};
+ghost use Rattle.measure.specs.Measures.{MeasureOf, Few, Measurable};
 
 // A tree's letters; or that the bytes are no tree with a word.
 pub enum TreeMeasure {
@@ -39,25 +39,6 @@ fn ready(tree: &[u8], plan: &[u32]) -> bool
     true
 }
 
-// Whether the next turn of the loop meets nothing unusual before the table is looked into.
-fn usual(f: usize, next: usize, top: usize) -> bool
-    ensures { λ r. ⌜ Told (Usual f next top) r ⌝ }
-{
-    if layout::SYMBOLS <= f {
-        return false;
-    }
-    if layout::STATES * layout::LEVELS <= next {
-        return false;
-    }
-    if top == 0 {
-        return false;
-    }
-    if 200 < top {
-        return false;
-    }
-    true
-}
-
 // Measures the tree that tree bytes are, from the initial state on, and plans its writing: `Other`
 // where they are no tree with a word. The letters are few whatever the lent numbers are.
 pub fn measure(
@@ -79,7 +60,7 @@ pub fn measure(
     let mut at = 0;
     while at < tree.len() {
         let f = layout::wide(tree[at]);
-        if !usual(f, next, top) {
+        if !waiting::usual(f, next, top) {
             return TreeMeasure::Other;
         }
         let x = layout::kept_here(numbers, next % layout::STATES, f);

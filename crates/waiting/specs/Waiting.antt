@@ -2,10 +2,11 @@
 -- Definitions only.
 use mathlib.Core.Path.{_≡_}
 use mathlib.Core.List.{List, [], _∷_}
-use Prim.Native.Nat.{ℕ, zero, suc, _+_, _*_, _<_}
+use Prim.Native.Nat.{ℕ, zero, suc, _+_, _*_, _<_, _≤_}
 use lib.ListN.{getD}
 use Rattle.machine.specs.Machine.{Child}
-use Rattle.text.specs.Limits.{statesMost}
+use Rattle.text.specs.Limits.{symbolsMost, statesMost}
+use Rattle.trees.specs.Shape.{depthMost}
 
 -- The waiting numbers of a rule's children with e symbols above them.
 abbrev pub kids : ℕ → List Child → List ℕ
@@ -26,3 +27,11 @@ waits W (suc n) next = next ∷ under W n
 pub record NextIs (k below first next : ℕ) : Type 0 where
   pub none : k ≡ 0 → next ≡ below
   pub some : 0 < k → next ≡ first
+
+-- A turn meets a symbol f and a waiting number that tables may have, with at most 63 symbols above it; the stack of `top` places has one to give, and
+-- room for three.
+pub record Usual (f next top : ℕ) : Type 0 where
+  pub symbol : f < symbolsMost
+  pub levels : next < statesMost * depthMost
+  pub waits : 0 < top
+  pub room : top ≤ 200

@@ -1,9 +1,10 @@
 // The numbers that wait while a tree is measured: a state, with a unit for each symbol above it.
 ghost use mathlib.Core.Path.{_≡_};
 ghost use Prim.Native.Nat.{suc, _+_, _*_, _/_, _<_, _≤_};
+ghost use Rattle.words.specs.Told.{Told};
 ghost use Rattle.text.specs.Limits.{statesMost};
 ghost use Rattle.trees.specs.Shape.{depthMost};
-ghost use Rattle.waiting.specs.Waiting.{NextIs};
+ghost use Rattle.waiting.specs.Waiting.{NextIs, Usual};
 
 // The level of a waiting number's children: a unit for each symbol above them.
 pub fn level_below(next: usize) -> usize
@@ -26,4 +27,23 @@ pub fn next_of(kids: usize, below: u16, first: usize) -> usize
     ensures { λ r. ⌜ NextIs kids below first r ⌝ }
 {
     if kids == 0 { below as usize } else { first }
+}
+
+// Whether a number that comes next may meet a symbol: both are some that tables have, and the stack has room.
+pub fn usual(f: usize, next: usize, top: usize) -> bool
+    ensures { λ r. ⌜ Told (Usual f next top) r ⌝ }
+{
+    if layout::SYMBOLS <= f {
+        return false;
+    }
+    if layout::STATES * layout::LEVELS <= next {
+        return false;
+    }
+    if top == 0 {
+        return false;
+    }
+    if 200 < top {
+        return false;
+    }
+    true
 }

@@ -34,6 +34,17 @@ pub record Output (F I S P : List ℕ) (letters : ℕ) (u v : Word) (M : Table) 
   pub first : u ≡ M .before
   pub last : v ≡ M .after
 
+-- Into the room R were put u, the word of a planned tree, and v, one behind the other, which left the room R′.
+pub record ThreePut (F P : List ℕ) (letters : ℕ) (u v : Word) (R R′ : List ℕ) : Type 0 where
+  pub room₁ : List ℕ
+  pub room₂ : List ℕ
+  pub from : ℕ
+  pub first : room₁ ≡ take 0 R ++ u ++ drop (0 + length u) R
+  pub from-is : from ≡ 0 + length u
+  pub tree : (M : Table) (q : ℕ) (t : Tree) (w : Word) → Due F P 0 depthMost letters M q t w → letters ≡ length w
+      → room₂ ≡ take from room₁ ++ w ++ drop (from + letters) room₁
+  pub last : R′ ≡ take (from + letters) room₂ ++ v ++ drop (from + letters + length v) room₂
+
 module _ {F I S P : List ℕ} {letters : ℕ} {u v : Word} {M : Table} (b : Output F I S P letters u v M) where
   -- The output is the three words, one behind the other.
   output-is : u ++ b .counted .letters-of ++ v ≡ M .before ++ b .counted .letters-of ++ M .after
@@ -70,23 +81,22 @@ module _ {F I S P : List ℕ} {letters : ℕ} {u v : Word} {M : Table} (b : Outp
         fits = omega (arith, k .many);
       }
 
-  -- In a room that is long enough, u is put at its front, the tree's word behind it, and v behind that.
-  pub output-fits : {r : WordAnswer} (R R₁ R₂ R₃ : List ℕ) (from n : ℕ) → length u + letters + length v ≤ length R
-      → R₁ ≡ take 0 R ++ u ++ drop (0 + length u) R → from ≡ 0 + length u
-      → ((M : Table) (q : ℕ) (t : Tree) (w : Word) → Due F P 0 depthMost letters M q t w → letters ≡ length w
-      → R₂ ≡ take from R₁ ++ w ++ drop (from + letters) R₁)
-      → R₃ ≡ take (from + letters) R₂ ++ v ++ drop (from + letters + length v) R₂
-      → n ≡ terms (take (length u + letters + length v) R₃) → r ≡ found.Found (record { length = length u + letters + length v; terms = n })
-      → Answers (wordInto M S (length R)) R R₃ r
-  output-fits R R₁ R₂ R₃ from n h e₁ ef wrote e₃ en er =
+  -- In a room that is long enough the three are put one behind the other.
+  pub output-fits : {r : WordAnswer} {R R′ : List ℕ} (n : ℕ) → length u + letters + length v ≤ length R → ThreePut F P letters u v R R′
+      → n ≡ terms (take (length u + letters + length v) R′) → r ≡ found.Found (record { length = length u + letters + length v; terms = n })
+      → Answers (wordInto M S (length R)) R R′ r
+  output-fits {r} {R} {R′} n h p en er =
       let k = b .counted in
       let w : Word = k .letters-of in
-      let y = wrote M (M .start) (k .tree) w output-due (k .many) in
-      output-answer R R₃
-      (word-said R R₃ (u ++ w ++ v) (length u + letters + length v) n output-long en h er
-      (three-filled R R₁ R₂ R₃ u w v from e₁ ef
-      (subst (λ (x : ℕ). R₂ ≡ take from R₁ ++ w ++ drop (from + x) R₁) (k .many) y)
-      (subst (λ (x : ℕ). R₃ ≡ take (from + x) R₂ ++ v ++ drop (from + x + length v) R₂) (k .many) e₃)))
+      let R₁ = p .room₁ in
+      let R₂ = p .room₂ in
+      let from = p .from in
+      let wrote = p .tree M (M .start) (k .tree) w output-due (k .many) in
+      output-answer R R′
+      (word-said R R′ (u ++ w ++ v) (length u + letters + length v) n output-long en h er
+      (three-filled R R₁ R₂ R′ u w v from (p .first) (p .from-is)
+      (subst (λ (x : ℕ). R₂ ≡ take from R₁ ++ w ++ drop (from + x) R₁) (k .many) wrote)
+      (subst (λ (x : ℕ). R′ ≡ take (from + x) R₂ ++ v ++ drop (from + x + length v) R₂) (k .many) (p .last))))
 
 -- What a measure that counted says.
 pub measured-counted : {F S P : List ℕ} {M : Table} {q : ℕ} {r : TreeMeasure} (letters : ℕ) → MeasureOf F S P M q r → r ≡ measured.Counted letters → Counted F S P M q letters

@@ -6,7 +6,7 @@ use native.Mathlib.Omega.{arith}
 use borrow.Author.Needs.{needs}
 use borrow.Author.Tests.{not-true, not-false}
 use lib.ListN.{length, getD}
-use Rattle.measure.specs.Measures.{Usual}
+use Rattle.waiting.specs.Waiting.{Usual}
 use Rattle.measure.proofs.Turn.{Measuring, not-measurable, measuring-first, measuring-next, measuring-last, measuring-few}
 use Rattle.measure.proofs.Turn.{KeptAt, measuring-unusual, measuring-state, measuring-lacking, measuring-early}
 use Rattle.measure.proofs.measure.Statement.{statement}
@@ -44,15 +44,22 @@ returns-2 c =
 met : (c : tie.Else2 Inv-loop μ-loop) → let l = c .before .before .before .before .before .loop in Usual (c .before .before .wide .result) (l .next) (l .top)
 met c = c .before .usual .ensures .if-true (not-false _ (c .if2 .left))
 
+-- What is kept was looked up; above it the loop's head, and the entry.
+abbrev Looked : Type 0
+Looked = tie.After-kept-here Inv-loop μ-loop
+
+abbrev round : Looked → tie.At-loop Inv-loop μ-loop
+round c = c .before .before .before .before .before .before .before
+
+abbrev start : Looked → tie.Start Inv-loop μ-loop
+start c = round c .before .before .before .before .before .before .before .before
+
 -- What is kept for the number that comes next and its symbol.
-kept : (c : tie.After-kept-here Inv-loop μ-loop) →
-    let l = c .before .before .before .before .before .before .before .loop in
-    let a = c .before .before .before .before .before .before .before .before .before .before .before .before .before .before .before .args in
+kept : (c : Looked) → let l = round c .loop in let a = start c .args in
     KeptAt (a .numbers .now) (l .next) (getD (a .tree .now) (l .at) 0) (c .kept-here .result)
 kept c =
-    let l = c .before .before .before .before .before .before .before .loop in
-    let a = c .before .before .before .before .before .before .before .before .before .before .before .before .before .before .before .args in
-    subst (λ (f : ℕ). KeptAt (a .numbers .now) (l .next) f (c .kept-here .result)) (c .before .before .before .before .wide .ensures .0) (c .kept-here .ensures)
+    let symbol = c .before .before .before .before .wide in
+    subst (λ (f : ℕ). KeptAt (start c .args .numbers .now) (round c .loop .next) f (c .kept-here .result)) (symbol .ensures .0) (c .kept-here .ensures)
 
 kept-here-requires : tie.Need-kept-here-requires Inv-loop μ-loop
 kept-here-requires c κs = (search needs, met (c .before) .symbol)
@@ -60,7 +67,7 @@ kept-here-requires c κs = (search needs, met (c .before) .symbol)
 returns-3 : tie.Need-returns-3 Inv-loop μ-loop
 returns-3 c =
     let k = c .before in
-    let l = k .before .before .before .before .before .before .before .loop in
+    let l = round k .loop in
     let h = met (k .before .before) .waits in
     (λ F M o. measuring-lacking (l .inv) F M o h _ (kept k F M o (measuring-state (l .inv) F M o h)) (c .if3 .taken), tt)
 

@@ -27,17 +27,17 @@ returns-2 c =
     λ S M o k.
     output-fits
     (record { opened = o; counted = k; first = before .word-before .ensures .1 M o; last = after .word-after .ensures .1 M o })
-    (before .before .before .before .before .args .room .now)
-    (first .put .last .1 .0)
-    (tree .put-tree .last .1 .1 .1 .0)
-    (last .put2 .last .1 .0)
-    (first .put .result)
     (c .terms-in .result)
     (fits .if1 .left)
-    (first .put .ensures .1)
-    (first .put .ensures .0)
-    (tree .put-tree .ensures)
-    (last .put2 .ensures .1)
+    (record {
+      room₁ = first .put .last .1 .0;
+      room₂ = tree .put-tree .last .1 .1 .1 .0;
+      from = first .put .result;
+      first = first .put .ensures .1;
+      from-is = first .put .ensures .0;
+      tree = tree .put-tree .ensures;
+      last = last .put2 .ensures .1;
+    })
     (c .terms-in .ensures)
     refl
 

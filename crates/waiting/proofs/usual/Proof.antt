@@ -2,8 +2,8 @@
 use native.Mathlib.Omega.{arith}
 use borrow.Author.Needs.{needs}
 use Rattle.words.proofs.Told.{told-yes, told-no}
-use Rattle.measure.proofs.usual.Statement.{statement}
-use Rattle.measure.proofs.usual.Tie as tie
+use Rattle.waiting.proofs.usual.Statement.{statement}
+use Rattle.waiting.proofs.usual.Tie as tie
 
 returns : tie.Need-returns
 returns c = told-no (λ u. omega (arith, u .symbol, c .if1 .taken))
