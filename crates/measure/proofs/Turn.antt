@@ -14,9 +14,9 @@ use Rattle.layout.specs.Layout.{ruleLetters, Opened}
 use Rattle.layout.specs.Leaves.{Holds, Tells, Kept, stateNo}
 use Rattle.walk.specs.Walked.{Wordless}
 use Rattle.walk.specs.Plan.{Names, Counted}
-use Rattle.waiting.specs.Waiting.{kids, under, waits, NextIs, Usual}
+use Rattle.waiting.specs.Waiting.{kids, under, waits, ChildrenPushed, NextIs, Usual}
 use Rattle.waiting.proofs.WholeFrom.{WholeFrom, whole-first, whole-next, whole-last}
-use Rattle.waiting.proofs.Waits.{under-long, waits-some, stored, Behind, push}
+use Rattle.waiting.proofs.Waits.{under-long, waits-some, pushed-children, push}
 use Rattle.measure.specs.Measures.{Measurable}
 use Rattle.measure.proofs.Ruled.{told-fits, found-symbol, found-kept}
 use Rattle.waiting.proofs.Owed.{Worded, wordless, Owing, owing-first, owing-next, owing-none, owing-early, owing-met}
@@ -114,15 +114,8 @@ module _ {I S P W : List ℕ} {top v sum at : ℕ} (t : Measuring I S P W top v 
 abbrev pub ToldBy : ℕ → ℕ → (Rule → ℕ) → Type 0
 ToldBy x n g = (i : ℕ) (r : Rule) → Holds x i r → n ≡ g r
 
--- The number a is a level and the state of the child with n others behind it, if that is not the first, of the rule that x tells.
-pub record Later (x level n a : ℕ) : Type 0 where
-  pub state : ℕ
-  pub is : a ≡ level + state
-  pub of : (i : ℕ) (r : Rule) (j : ℕ) → Holds x i r → suc (suc j) + n ≡ length (r .rest) → state ≡ stateNo (r .rest) (suc j)
-
--- What a turn does with what is kept, x, for the number v: the plan's number y, the sum, the numbers of the first child and of the three that are stored,
--- and what comes next.
-pub record Turned (I : List ℕ) (x v y sum sum′ u a b c k below next : ℕ) : Type 0 where
+-- What a turn does with what is kept, x, for the number v: the plan's number y, the sum, the stack W′, and what comes next.
+pub record Turned (I W W′ : List ℕ) (x v top y sum sum′ u k next : ℕ) : Type 0 where
   pub planned : (F : List ℕ) (M : Table) (q f : ℕ) → Opened F I M → (t : Tells M q f x) → Names F y (t .rule)
   pub letters : ℕ
   pub few : letters < 256
@@ -133,73 +126,56 @@ pub record Turned (I : List ℕ) (x v y sum sum′ u a b c k below next : ℕ) :
   pub first-state : ℕ
   pub first-is : u ≡ level + first-state
   pub first : ToldBy x first-state (λ r. stateNo (r .rest) 0)
-  pub last : Later x level 0 a
-  pub second : Later x level 1 b
-  pub third : Later x level 2 c
+  pub later : ChildrenPushed x level top W W′
   pub kids-few : k < 8
   pub kids : ToldBy x k (λ r. length (r .rest))
-  pub comes : NextIs k below u next
-
--- The stack after the three stores.
-abbrev pub pushed : List ℕ → ℕ → ℕ → ℕ → ℕ → List ℕ
-pushed W top a b c = set (set (set W top a) (top + 1) b) (top + 2) c
-
--- A number that is a level and a child's state is that child's waiting number.
-later-behind : {x level n a i : ℕ} {r : Rule} (e : ℕ) → Later x level n a → Holds x i r → level ≡ statesMost * e → Behind (r .rest) e n a
-later-behind {i = i} {r = r} e l h d j m = let s = l .of i r j h m in omega (arith, l .is)
+  pub comes : NextIs k (getD W (top - 1) 0) u next
 
 -- The rule's children wait on the stack after a turn, over what waited below.
-turned-waits : (W : List ℕ) (top v : ℕ) {I : List ℕ} {x y sum sum′ u a b c k next : ℕ} (top′ : ℕ) → length W ≡ 208
-    → Turned I x v y sum sum′ u a b c k (getD W (top - 1) 0) next → 0 < top → top ≤ 200 → top′ ≡ top + k - 1 → {i : ℕ} {r : Rule} → Holds x i r
-    → waits (pushed W top a b c) top′ next ≡ kids (suc (v / statesMost)) (r .rest) ++ under W (top - 1)
-turned-waits W top v {u = u} {a = a} {b = b} {c = c} {k = k} {next = next} top′ w d h l e {i} {r} s =
+turned-waits : {I W W′ : List ℕ} {x v top y sum sum′ u k next : ℕ} (top′ : ℕ) → length W ≡ 208 → Turned I W W′ x v top y sum sum′ u k next
+    → 0 < top → top ≤ 200 → top′ ≡ top + k - 1 → {i : ℕ} {r : Rule} → Holds x i r
+    → waits W′ top′ next ≡ kids (suc (v / statesMost)) (r .rest) ++ under W (top - 1)
+turned-waits {W = W} {W′ = W′} {v = v} {top = top} {u = u} {k = k} {next = next} top′ w d h l e {i} {r} s =
     let kk : k ≡ length (r .rest) = d .kids i r s in
-    push W (pushed W top a b c) (top - 1) (suc (v / statesMost)) u a b c next top′ (r .rest) (s .modest .kids)
-    (record {
-      first = omega (arith, d .level-is, d .first-is, d .first i r s);
-      last = later-behind (suc (v / statesMost)) (d .last) s (d .level-is);
-      second = later-behind (suc (v / statesMost)) (d .second) s (d .level-is);
-      third = later-behind (suc (v / statesMost)) (d .third) s (d .level-is);
-    })
-    (stored W (top - 1) top (top + 1) (top + 2) a b c (omega arith) (omega arith) (omega arith) (omega arith))
-    (rw kk at (d .comes))
-    (omega arith)
+    let first : u ≡ statesMost * suc (v / statesMost) + stateNo (r .rest) 0 = omega (arith, d .level-is, d .first-is, d .first i r s) in
+    push W W′ (top - 1) (suc (v / statesMost)) u next top′ (r .rest) (s .modest .kids) first
+    (pushed-children W W′ (top - 1) top (suc (v / statesMost)) (d .later) s (d .level-is) (omega arith) (omega arith)) (rw kk at (d .comes)) (omega arith)
 
 -- What is kept for the number v and the symbol f, in every table that the lent numbers mean, if v has a state of it.
 abbrev pub KeptAt : List ℕ → ℕ → ℕ → ℕ → Type 0
 KeptAt I v f x = (F : List ℕ) (M : Table) → Opened F I M → v % statesMost < M .states → Kept M (v % statesMost) f x
 
-module _ {I S P W : List ℕ} {top v sum at : ℕ} (t : Measuring I S P W top v sum at) where
+module _ {I S P W W′ : List ℕ} {top v sum at : ℕ} (t : Measuring I S P W top v sum at) where
   -- What waits after a turn decides the whole and is owed trees by it, in every table that the lent numbers mean.
-  turned : {x y sum′ u a b c k next : ℕ} (top′ : ℕ) → at < length S → Usual (getD S at 0) v top
-      → KeptAt I v (getD S at 0) x → (x ≡ 0 → ⊥) → Turned I x v y sum sum′ u a b c k (getD W (top - 1) 0) next → top′ ≡ top + k - 1
+  turned : {x y sum′ u k next : ℕ} (top′ : ℕ) → at < length S → Usual (getD S at 0) v top
+      → KeptAt I v (getD S at 0) x → (x ≡ 0 → ⊥) → Turned I W W′ x v top y sum sum′ u k next → top′ ≡ top + k - 1
       → (F : List ℕ) (M : Table) → Opened F I M
-      → (let vs = waits (pushed W top a b c) top′ next in WholeFrom F S (set P at y) M (M .start) vs (suc at) sum′ × Owing S M (M .start) vs (suc at))
-  turned {x} {y} {sum′} {u} {a} {b} {c} {k} {next} top′ l n kept nz d e F M o =
+      → (let vs = waits W′ top′ next in WholeFrom F S (set P at y) M (M .start) vs (suc at) sum′ × Owing S M (M .start) vs (suc at))
+  turned {x} {y} {sum′} {u} {k} {next} top′ l n kept nz d e F M o =
       let p = v % statesMost in
       let f = getD S at 0 in
       let r : Tells M p f x = kept F M o (measuring-state t F M o (n .waits)) .some nz in
       let fits = told-fits o p f r in
       let g = subst (λ (vs : List ℕ). WholeFrom F S P M (M .start) vs at sum) (waits-some W top v (n .waits)) (t .decides F M o) in
       subst (λ (vs : List ℕ). WholeFrom F S (set P at y) M (M .start) vs (suc at) sum′ × Owing S M (M .start) vs (suc at))
-      (sym (turned-waits W top v top′ (t .places) d (n .waits) (n .room) e (r .holds))) (
+      (sym (turned-waits top′ (t .places) d (n .waits) (n .room) e (r .holds))) (
         whole-next g l (omega (arith, t .long)) (n .levels) (r .rule) y (r .ruled .found) fits (d .planned F M p f o r)
             sum′ (omega (arith, d .counted, d .written (r .number) (r .rule) (r .holds))),
         owing-next (some-owing t F M o (n .waits)) (r .rule) (r .ruled .found) fits (r .holds .modest .kids),
       )
 
   -- One turn: the number that comes next meets a symbol for which a rule is kept.
-  pub measuring-next : {x y sum′ u a b c k next : ℕ} (top′ : ℕ) → at < length S → Usual (getD S at 0) v top
-      → KeptAt I v (getD S at 0) x → (x ≡ 0 → ⊥) → Turned I x v y sum sum′ u a b c k (getD W (top - 1) 0) next → top′ ≡ top + k - 1
-      → Measuring I S (set P at y) (pushed W top a b c) top′ next sum′ (at + 1)
-  measuring-next {x} {y} {sum′} {u} {a} {b} {c} {k} {next} top′ l n kept nz d e =
+  pub measuring-next : {x y sum′ u k next : ℕ} (top′ : ℕ) → at < length S → Usual (getD S at 0) v top
+      → KeptAt I v (getD S at 0) x → (x ≡ 0 → ⊥) → Turned I W W′ x v top y sum sum′ u k next → top′ ≡ top + k - 1
+      → Measuring I S (set P at y) W′ top′ next sum′ (at + 1)
+  measuring-next {x} {y} {sum′} {u} {k} {next} top′ l n kept nz d e =
       record {
         decides = rw (add-one at) (λ F M o. turned top′ l n kept nz d e F M o .0);
         owing = rw (add-one at) (λ F M o. turned top′ l n kept nz d e F M o .1);
         passed = omega arith;
         short = t .short;
         long = omega (arith, length-set P at y, t .long);
-        places = length-set (set (set W top a) (top + 1) b) (top + 2) c ∙ length-set (set W top a) (top + 1) b ∙ length-set W top a ∙ t .places;
+        places = d .later .long ∙ t .places;
         letters = omega (arith, d .counted, d .few, t .letters);
         room = omega (arith, d .kids-few, n .room);
       }

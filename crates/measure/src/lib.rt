@@ -72,9 +72,7 @@ pub fn measure(
         let level = waiting::level_below(next);
         let below = stack[top - 1];
         let first = level + layout::first_in(x);
-        stack[top] = waiting::child(level, layout::later_in(x, 0));
-        stack[top + 1] = waiting::child(level, layout::later_in(x, 1));
-        stack[top + 2] = waiting::child(level, layout::later_in(x, 2));
+        waiting::push(&mut stack, top, level, x);
         let k = layout::kids_in(x);
         next = waiting::next_of(k, below, first);
         top = top + k - 1;

@@ -1,14 +1,14 @@
 -- The stack of waiting numbers: the number that comes next, and those under it, from the top down. The lowest place of the stack holds none.
-use mathlib.Core.Path.{_≡_, refl, ap, _∙_}
+use mathlib.Core.Path.{_≡_, refl, ap, subst⁻¹, _∙_}
 use mathlib.Core.List.{List, [], _∷_, _++_}
 use Prim.Native.Nat.{ℕ, zero, suc, _+_, _-_, _*_, _<_, _≤_}
 use native.Mathlib.Omega.{arith}
 use lib.ListN.{length, getD, set, length-set}
 use lib.Seq.{getD-set-same, getD-set-other}
-use Rattle.machine.specs.Machine.{Child}
+use Rattle.machine.specs.Machine.{Child, Rule}
 use Rattle.text.specs.Limits.{statesMost, arityMost}
-use Rattle.layout.specs.Leaves.{stateNo}
-use Rattle.waiting.specs.Waiting.{kids, under, waits, NextIs}
+use Rattle.layout.specs.Leaves.{Holds, stateNo}
+use Rattle.waiting.specs.Waiting.{kids, under, waits, Later, ChildrenPushed, NextIs}
 
 -- There are as many.
 pub under-long : (W : List ℕ) (n : ℕ) → length (under W n) ≡ n
@@ -21,14 +21,14 @@ waits-some W zero next h = absurd (omega arith)
 waits-some W (suc n) next h = let e : suc n - 1 ≡ n = omega arith in rw e refl
 
 -- The stack W′ is the stack W up to place n, and then holds a, b and c.
-pub record ThreeStored (W W′ : List ℕ) (n a b c : ℕ) : Type 0 where
+record ThreeStored (W W′ : List ℕ) (n a b c : ℕ) : Type 0 where
   pub kept : (i : ℕ) → i ≤ n → getD W′ i 0 ≡ getD W i 0
   pub one : getD W′ (suc n) 0 ≡ a
   pub two : getD W′ (suc (suc n)) 0 ≡ b
   pub three : getD W′ (suc (suc (suc n))) 0 ≡ c
 
 -- Three stores make it so.
-pub stored : (W : List ℕ) (n i j k a b c : ℕ) → i ≡ suc n → j ≡ suc (suc n) → k ≡ suc (suc (suc n)) → k < length W
+stored : (W : List ℕ) (n i j k a b c : ℕ) → i ≡ suc n → j ≡ suc (suc n) → k ≡ suc (suc (suc n)) → k < length W
     → ThreeStored W (set (set (set W i a) j b) k c) n a b c
 stored W n i j k a b c x y z l =
     let li = length-set W i a in
@@ -59,42 +59,60 @@ pop W W′ (suc n) next k e = let b = under-kept W W′ n (λ i h. k i (omega ar
 abbrev pub Behind : List Child → ℕ → ℕ → ℕ → Type 0
 Behind cs e n a = (j : ℕ) → suc (suc j) + n ≡ length cs → a ≡ statesMost * e + stateNo cs (suc j)
 
--- The waiting numbers of the first, the last, the last but one and the last but two of a rule's children with e symbols above them.
-pub record ChildNumbers (cs : List Child) (e u a b c : ℕ) : Type 0 where
-  pub first : u ≡ statesMost * e + stateNo cs 0
-  pub last : Behind cs e 0 a
-  pub second : Behind cs e 1 b
-  pub third : Behind cs e 2 c
+-- The stack W′ is the stack W up to place n; above it stand the numbers of the last, the last but one and the last but two of a rule's children
+-- behind the first, with e symbols above them.
+pub record Stacked (W W′ : List ℕ) (n e : ℕ) (cs : List Child) : Type 0 where
+  pub kept : (i : ℕ) → i ≤ n → getD W′ i 0 ≡ getD W i 0
+  pub last : Behind cs e 0 (getD W′ (suc n) 0)
+  pub second : Behind cs e 1 (getD W′ (suc (suc n)) 0)
+  pub third : Behind cs e 2 (getD W′ (suc (suc (suc n))) 0)
+
+-- A number that is a level and a child's state is that child's waiting number.
+later-behind : {x level n a i : ℕ} {r : Rule} (e : ℕ) (b : ℕ) → b ≡ a → Later x level n a → Holds x i r → level ≡ statesMost * e → Behind (r .rest) e n b
+later-behind {i = i} {r = r} e b z l h d j m = let s = l .of i r j h m in omega (arith, l .is)
+
+-- Where a rule's children were pushed, they stand on the stack.
+pub pushed-children : {x level i : ℕ} {r : Rule} (W W′ : List ℕ) (n top e : ℕ) → ChildrenPushed x level top W W′ → Holds x i r → level ≡ statesMost * e
+    → top ≡ suc n → top + 2 < length W → Stacked W W′ n e (r .rest)
+pushed-children {x} {level} {i} {r} W W′ n top e p h d t l =
+    let s = subst⁻¹ (λ (X : List ℕ). ThreeStored W X n (p .last) (p .second) (p .third)) (p .stored)
+    (stored W n top (top + 1) (top + 2) (p .last) (p .second) (p .third) t (omega arith) (omega arith) l) in
+    record {
+      kept = s .kept;
+      last = later-behind e _ (s .one) (p .last-is) h d;
+      second = later-behind e _ (s .two) (p .second-is) h d;
+      third = later-behind e _ (s .three) (p .third-is) h d;
+    }
 
 -- A rule's children come on top of what waits, the first child next, then the second.
-pub push : (W W′ : List ℕ) (n e u a b c next top : ℕ) (cs : List Child) → length cs ≤ arityMost → ChildNumbers cs e u a b c → ThreeStored W W′ n a b c
+pub push : (W W′ : List ℕ) (n e u next top : ℕ) (cs : List Child) → length cs ≤ arityMost → u ≡ statesMost * e + stateNo cs 0 → Stacked W W′ n e cs
     → NextIs (length cs) (getD W n 0) u next → top ≡ n + length cs → waits W′ top next ≡ kids e cs ++ under W n
 unfolding stateNo
-push W W′ n e u a b c next top [] l t s x d = let z : top ≡ n = omega arith in rw z (pop W W′ n next (s .kept) (x .none refl))
-push W W′ n e u a b c next top (c₁ ∷ []) l t s x d =
+push W W′ n e u next top [] l f₀ s x d = let z : top ≡ n = omega arith in rw z (pop W W′ n next (s .kept) (x .none refl))
+push W W′ n e u next top (c₁ ∷ []) l f₀ s x d =
     let z : top ≡ suc n = omega arith in
     let o = under-kept W W′ n (s .kept) in
-    let f : next ≡ statesMost * e + c₁ .state = x .some (omega arith) ∙ t .first in
+    let f : next ≡ statesMost * e + c₁ .state = x .some (omega arith) ∙ f₀ in
     rw z (cc)
-push W W′ n e u a b c next top (c₁ ∷ c₂ ∷ []) l t s x d =
+push W W′ n e u next top (c₁ ∷ c₂ ∷ []) l f₀ s x d =
     let z : top ≡ suc (suc n) = omega arith in
     let o = under-kept W W′ n (s .kept) in
-    let f : next ≡ statesMost * e + c₁ .state = x .some (omega arith) ∙ t .first in
-    let g : getD W′ (suc n) 0 ≡ statesMost * e + c₂ .state = s .one ∙ t .last 0 refl in
+    let f : next ≡ statesMost * e + c₁ .state = x .some (omega arith) ∙ f₀ in
+    let g : getD W′ (suc n) 0 ≡ statesMost * e + c₂ .state = s .last 0 refl in
     rw z (cc)
-push W W′ n e u a b c next top (c₁ ∷ c₂ ∷ c₃ ∷ []) l t s x d =
+push W W′ n e u next top (c₁ ∷ c₂ ∷ c₃ ∷ []) l f₀ s x d =
     let z : top ≡ suc (suc (suc n)) = omega arith in
     let o = under-kept W W′ n (s .kept) in
-    let f : next ≡ statesMost * e + c₁ .state = x .some (omega arith) ∙ t .first in
-    let g : getD W′ (suc (suc n)) 0 ≡ statesMost * e + c₂ .state = s .two ∙ t .second 0 refl in
-    let h : getD W′ (suc n) 0 ≡ statesMost * e + c₃ .state = s .one ∙ t .last 1 refl in
+    let f : next ≡ statesMost * e + c₁ .state = x .some (omega arith) ∙ f₀ in
+    let g : getD W′ (suc (suc n)) 0 ≡ statesMost * e + c₂ .state = s .second 0 refl in
+    let h : getD W′ (suc n) 0 ≡ statesMost * e + c₃ .state = s .last 1 refl in
     rw z (cc)
-push W W′ n e u a b c next top (c₁ ∷ c₂ ∷ c₃ ∷ c₄ ∷ []) l t s x d =
+push W W′ n e u next top (c₁ ∷ c₂ ∷ c₃ ∷ c₄ ∷ []) l f₀ s x d =
     let z : top ≡ suc (suc (suc (suc n))) = omega arith in
     let o = under-kept W W′ n (s .kept) in
-    let f : next ≡ statesMost * e + c₁ .state = x .some (omega arith) ∙ t .first in
-    let g : getD W′ (suc (suc (suc n))) 0 ≡ statesMost * e + c₂ .state = s .three ∙ t .third 0 refl in
-    let h : getD W′ (suc (suc n)) 0 ≡ statesMost * e + c₃ .state = s .two ∙ t .second 1 refl in
-    let i : getD W′ (suc n) 0 ≡ statesMost * e + c₄ .state = s .one ∙ t .last 2 refl in
+    let f : next ≡ statesMost * e + c₁ .state = x .some (omega arith) ∙ f₀ in
+    let g : getD W′ (suc (suc (suc n))) 0 ≡ statesMost * e + c₂ .state = s .third 0 refl in
+    let h : getD W′ (suc (suc n)) 0 ≡ statesMost * e + c₃ .state = s .second 1 refl in
+    let i : getD W′ (suc n) 0 ≡ statesMost * e + c₄ .state = s .last 2 refl in
     rw z (cc)
-push W W′ n e u a b c next top (c₁ ∷ c₂ ∷ c₃ ∷ c₄ ∷ c₅ ∷ cs) l t s x d = absurd (omega arith)
+push W W′ n e u next top (c₁ ∷ c₂ ∷ c₃ ∷ c₄ ∷ c₅ ∷ cs) l f₀ s x d = absurd (omega arith)

@@ -3,10 +3,11 @@
 use mathlib.Core.Path.{_≡_}
 use mathlib.Core.List.{List, [], _∷_}
 use Prim.Native.Nat.{ℕ, zero, suc, _+_, _*_, _<_, _≤_}
-use lib.ListN.{getD}
-use Rattle.machine.specs.Machine.{Child}
+use lib.ListN.{length, getD, set}
+use Rattle.machine.specs.Machine.{Child, Rule}
 use Rattle.text.specs.Limits.{symbolsMost, statesMost}
 use Rattle.trees.specs.Shape.{depthMost}
+use Rattle.layout.specs.Leaves.{Holds, stateNo}
 
 -- The waiting numbers of a rule's children with e symbols above them.
 abbrev pub kids : ℕ → List Child → List ℕ
@@ -22,6 +23,23 @@ under W (suc n) = getD W (suc n) 0 ∷ under W n
 abbrev pub waits : List ℕ → ℕ → ℕ → List ℕ
 waits W zero next = []
 waits W (suc n) next = next ∷ under W n
+
+-- The number a is a level and the state of the child with n others behind it, if that is not the first, of the rule that x tells.
+pub record Later (x level n a : ℕ) : Type 0 where
+  pub state : ℕ
+  pub is : a ≡ level + state
+  pub of : (i : ℕ) (r : Rule) (j : ℕ) → Holds x i r → suc (suc j) + n ≡ length (r .rest) → state ≡ stateNo (r .rest) (suc j)
+
+-- From the stack W the stack W′ is made by storing, from place `top` on, the numbers of the last three children behind the first of the rule that x tells.
+pub record ChildrenPushed (x level top : ℕ) (W W′ : List ℕ) : Type 0 where
+  pub last : ℕ
+  pub second : ℕ
+  pub third : ℕ
+  pub last-is : Later x level 0 last
+  pub second-is : Later x level 1 second
+  pub third-is : Later x level 2 third
+  pub long : length W′ ≡ length W
+  pub stored : W′ ≡ set (set (set W top last) (top + 1) second) (top + 2) third
 
 -- The number that comes next behind a rule with k children: what waits below it if there are none, else the first child's.
 pub record NextIs (k below first next : ℕ) : Type 0 where

@@ -1,10 +1,11 @@
 // The numbers that wait while a tree is measured: a state, with a unit for each symbol above it.
 ghost use mathlib.Core.Path.{_≡_};
 ghost use Prim.Native.Nat.{suc, _+_, _*_, _/_, _<_, _≤_};
+ghost use lib.ListN.{length};
 ghost use Rattle.words.specs.Told.{Told};
 ghost use Rattle.text.specs.Limits.{statesMost};
 ghost use Rattle.trees.specs.Shape.{depthMost};
-ghost use Rattle.waiting.specs.Waiting.{NextIs, Usual};
+ghost use Rattle.waiting.specs.Waiting.{ChildrenPushed, NextIs, Usual};
 
 // The level of a waiting number's children: a unit for each symbol above them.
 pub fn level_below(next: usize) -> usize
@@ -15,11 +16,21 @@ pub fn level_below(next: usize) -> usize
 }
 
 // The waiting number of a child behind the first: its state, with a unit for each symbol above it.
-pub fn child(level: usize, state: usize) -> u16
+fn child(level: usize, state: usize) -> u16
     requires { ⌜ (level ≤ statesMost * depthMost) × (state < statesMost) ⌝ }
     ensures { λ r. ⌜ r ≡ level + state ⌝ }
 {
     (level + state) as u16
+}
+
+// Puts the numbers of a rule's last three children, where they are behind the first, on the stack.
+pub fn push(stack: &mut [u16], top: usize, level: usize, x: u64)
+    requires { ⌜ (level ≤ statesMost * depthMost) × (top + 3 ≤ length (now stack)) ⌝ }
+    ensures { λ _. ⌜ ChildrenPushed x level top (now (stack .entry)) (now (stack .exit)) ⌝ }
+{
+    stack[top] = child(level, layout::later_in(x, 0));
+    stack[top + 1] = child(level, layout::later_in(x, 1));
+    stack[top + 2] = child(level, layout::later_in(x, 2));
 }
 
 // The number that comes next: what waits below if a rule has no children, else the first child's.

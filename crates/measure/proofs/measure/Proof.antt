@@ -77,22 +77,24 @@ level-below-requires c κs = met (c .before .before .before .before .before .bef
 sub-below : tie.Need-sub-below Inv-loop μ-loop
 sub-below c = met (c .before .before .before .before .before .before .before) .waits
 
-array-write-stack-4 : tie.Need-array-write-stack-4 Inv-loop μ-loop
-array-write-stack-4 c =
-    let begun = c .before .before .before .before .before .before .before .before in
-    omega (arith, met (begun .before .before .before .before .before .before) .room)
+push-requires : tie.Need-push-requires Inv-loop μ-loop
+push-requires c κs =
+    let levelled = c .before .before in
+    let usual = levelled .before .before .before .before .before .before .before in
+    let l = usual .before .before .before .before .before .loop in
+    (levelled .level-below .ensures .1, omega (arith, met usual .room, l .inv .places))
 
 sub-top : tie.Need-sub-top Inv-loop μ-loop
 sub-top c =
-    let begun = c .before .before .before .before .before .before .before .before .before .before in
-    omega (arith, met (begun .before .before .before .before .before .before) .waits)
+    let levelled = c .before .before .before .before .before .before in
+    omega (arith, met (levelled .before .before .before .before .before .before .before) .waits)
 
 loop-again : tie.Need-loop-again Inv-loop μ-loop
 loop-again c =
-    let third = c .before .before in
-    let second = third .before .before in
-    let last = second .before .before in
-    let counted = last .before .before .before .before in
+    let pushed = c .before .before .before in
+    let first = pushed .before .before in
+    let levelled = first .before in
+    let counted = levelled .before in
     let k = counted .before .before .before .before in
     let t = k .before .before .before .before .before .before in
     let l = t .before .loop in
@@ -105,14 +107,12 @@ loop-again c =
       few = counted .letters-in .ensures .0;
       written = counted .letters-in .ensures .1;
       counted = refl;
-      level = last .before .before .before .level-below .result;
-      level-is = last .before .before .before .level-below .ensures .0;
-      first-state = last .before .before .first-in .result;
+      level = levelled .level-below .result;
+      level-is = levelled .level-below .ensures .0;
+      first-state = first .first-in .result;
       first-is = refl;
-      first = last .before .before .first-in .ensures .1;
-      last = record { state = last .before .later-in .result; is = last .child .ensures; of = last .before .later-in .ensures .1 };
-      second = record { state = second .before .later-in2 .result; is = second .child2 .ensures; of = second .before .later-in2 .ensures .1 };
-      third = record { state = third .before .later-in3 .result; is = third .child3 .ensures; of = third .before .later-in3 .ensures .1 };
+      first = first .first-in .ensures .1;
+      later = pushed .push .ensures;
       kids-few = c .before .kids-in .ensures .0;
       kids = c .before .kids-in .ensures .1;
       comes = c .next-of .ensures;
@@ -155,20 +155,8 @@ measure-spec =
     (λ c. search needs)
     (λ c κs. search needs)
     (λ c. search needs)
-    (λ c κs. search needs)
-    (λ c κs. search needs)
     (λ c. search needs)
-    (λ c. search needs)
-    (λ c κs. search needs)
-    (λ c κs. search needs)
-    (λ c. search needs)
-    (λ c. search needs)
-    (λ c. search needs)
-    (λ c κs. search needs)
-    (λ c κs. search needs)
-    (λ c. search needs)
-    (λ c. search needs)
-    array-write-stack-4
+    push-requires
     (λ c κs. search needs)
     (λ c κs. search needs)
     (λ c. search needs)
