@@ -14,9 +14,9 @@ use Rattle.layout.specs.Layout.{ruleLetters, Opened}
 use Rattle.layout.specs.Leaves.{Holds, Tells, Kept, stateNo}
 use Rattle.walk.specs.Walked.{Wordless}
 use Rattle.walk.specs.Plan.{Names, Counted}
-use Rattle.waiting.specs.Waiting.{kids, under, waits, ChildrenPushed, NextIs, Usual}
+use Rattle.waiting.specs.Waiting.{under, waits, ToldBy, TurnMade, Usual}
 use Rattle.waiting.proofs.WholeFrom.{WholeFrom, whole-first, whole-next, whole-last}
-use Rattle.waiting.proofs.Waits.{under-long, waits-some, pushed-children, push}
+use Rattle.waiting.proofs.Waits.{under-long, waits-some, turn-waits}
 use Rattle.measure.specs.Measures.{Measurable}
 use Rattle.measure.proofs.Ruled.{told-fits, found-symbol, found-kept}
 use Rattle.waiting.proofs.Owed.{Worded, wordless, Owing, owing-first, owing-next, owing-none, owing-early, owing-met}
@@ -110,36 +110,16 @@ module _ {I S P W : List ℕ} {top v sum at : ℕ} (t : Measuring I S P W top v 
   pub measuring-early : length S ≤ at → 0 < top → Wordless M S (M .start)
   measuring-early l h = wordless (λ w. owing-early (some-owing h) l w)
 
--- The number n is what g says of the rule that x tells.
-abbrev pub ToldBy : ℕ → ℕ → (Rule → ℕ) → Type 0
-ToldBy x n g = (i : ℕ) (r : Rule) → Holds x i r → n ≡ g r
-
--- What a turn does with what is kept, x, for the number v: the plan's number y, the sum, the stack W′, and what comes next.
-pub record Turned (I W W′ : List ℕ) (x v top y sum sum′ u k next : ℕ) : Type 0 where
+-- What a turn does with what is kept, x, for the number v: the plan's number y, the sum, the stack W′ with so many places more, and what comes next.
+pub record Turned (I W W′ : List ℕ) (x v top y sum sum′ k next : ℕ) : Type 0 where
   pub planned : (F : List ℕ) (M : Table) (q f : ℕ) → Opened F I M → (t : Tells M q f x) → Names F y (t .rule)
   pub letters : ℕ
   pub few : letters < 256
   pub written : ToldBy x letters ruleLetters
   pub counted : sum′ ≡ sum + letters
-  pub level : ℕ
-  pub level-is : level ≡ statesMost * suc (v / statesMost)
-  pub first-state : ℕ
-  pub first-is : u ≡ level + first-state
-  pub first : ToldBy x first-state (λ r. stateNo (r .rest) 0)
-  pub later : ChildrenPushed x level top W W′
+  pub made : TurnMade x v top W W′ next
   pub kids-few : k < 8
   pub kids : ToldBy x k (λ r. length (r .rest))
-  pub comes : NextIs k (getD W (top - 1) 0) u next
-
--- The rule's children wait on the stack after a turn, over what waited below.
-turned-waits : {I W W′ : List ℕ} {x v top y sum sum′ u k next : ℕ} (top′ : ℕ) → length W ≡ 208 → Turned I W W′ x v top y sum sum′ u k next
-    → 0 < top → top ≤ 200 → top′ ≡ top + k - 1 → {i : ℕ} {r : Rule} → Holds x i r
-    → waits W′ top′ next ≡ kids (suc (v / statesMost)) (r .rest) ++ under W (top - 1)
-turned-waits {W = W} {W′ = W′} {v = v} {top = top} {u = u} {k = k} {next = next} top′ w d h l e {i} {r} s =
-    let kk : k ≡ length (r .rest) = d .kids i r s in
-    let first : u ≡ statesMost * suc (v / statesMost) + stateNo (r .rest) 0 = omega (arith, d .level-is, d .first-is, d .first i r s) in
-    push W W′ (top - 1) (suc (v / statesMost)) u next top′ (r .rest) (s .modest .kids) first
-    (pushed-children W W′ (top - 1) top (suc (v / statesMost)) (d .later) s (d .level-is) (omega arith) (omega arith)) (rw kk at (d .comes)) (omega arith)
 
 -- What is kept for the number v and the symbol f, in every table that the lent numbers mean, if v has a state of it.
 abbrev pub KeptAt : List ℕ → ℕ → ℕ → ℕ → Type 0
@@ -147,35 +127,36 @@ KeptAt I v f x = (F : List ℕ) (M : Table) → Opened F I M → v % statesMost 
 
 module _ {I S P W W′ : List ℕ} {top v sum at : ℕ} (t : Measuring I S P W top v sum at) where
   -- What waits after a turn decides the whole and is owed trees by it, in every table that the lent numbers mean.
-  turned : {x y sum′ u k next : ℕ} (top′ : ℕ) → at < length S → Usual (getD S at 0) v top
-      → KeptAt I v (getD S at 0) x → (x ≡ 0 → ⊥) → Turned I W W′ x v top y sum sum′ u k next → top′ ≡ top + k - 1
+  turned : {x y sum′ k next : ℕ} (top′ : ℕ) → at < length S → Usual (getD S at 0) v top
+      → KeptAt I v (getD S at 0) x → (x ≡ 0 → ⊥) → Turned I W W′ x v top y sum sum′ k next → top′ ≡ top + k - 1
       → (F : List ℕ) (M : Table) → Opened F I M
       → (let vs = waits W′ top′ next in WholeFrom F S (set P at y) M (M .start) vs (suc at) sum′ × Owing S M (M .start) vs (suc at))
-  turned {x} {y} {sum′} {u} {k} {next} top′ l n kept nz d e F M o =
+  turned {x} {y} {sum′} {k} {next} top′ l n kept nz d e F M o =
       let p = v % statesMost in
       let f = getD S at 0 in
       let r : Tells M p f x = kept F M o (measuring-state t F M o (n .waits)) .some nz in
       let fits = told-fits o p f r in
+      let many = d .kids (r .number) (r .rule) (r .holds) in
       let g = subst (λ (vs : List ℕ). WholeFrom F S P M (M .start) vs at sum) (waits-some W top v (n .waits)) (t .decides F M o) in
       subst (λ (vs : List ℕ). WholeFrom F S (set P at y) M (M .start) vs (suc at) sum′ × Owing S M (M .start) vs (suc at))
-      (sym (turned-waits top′ (t .places) d (n .waits) (n .room) e (r .holds))) (
+      (sym (turn-waits top′ (d .made) (r .holds) (n .waits) (omega (arith, t .places, n .room)) (omega (arith, n .waits, many)))) (
         whole-next g l (omega (arith, t .long)) (n .levels) (r .rule) y (r .ruled .found) fits (d .planned F M p f o r)
             sum′ (omega (arith, d .counted, d .written (r .number) (r .rule) (r .holds))),
         owing-next (some-owing t F M o (n .waits)) (r .rule) (r .ruled .found) fits (r .holds .modest .kids),
       )
 
   -- One turn: the number that comes next meets a symbol for which a rule is kept.
-  pub measuring-next : {x y sum′ u k next : ℕ} (top′ : ℕ) → at < length S → Usual (getD S at 0) v top
-      → KeptAt I v (getD S at 0) x → (x ≡ 0 → ⊥) → Turned I W W′ x v top y sum sum′ u k next → top′ ≡ top + k - 1
+  pub measuring-next : {x y sum′ k next : ℕ} (top′ : ℕ) → at < length S → Usual (getD S at 0) v top
+      → KeptAt I v (getD S at 0) x → (x ≡ 0 → ⊥) → Turned I W W′ x v top y sum sum′ k next → top′ ≡ top + k - 1
       → Measuring I S (set P at y) W′ top′ next sum′ (at + 1)
-  measuring-next {x} {y} {sum′} {u} {k} {next} top′ l n kept nz d e =
+  measuring-next {x} {y} {sum′} {k} {next} top′ l n kept nz d e =
       record {
         decides = rw (add-one at) (λ F M o. turned top′ l n kept nz d e F M o .0);
         owing = rw (add-one at) (λ F M o. turned top′ l n kept nz d e F M o .1);
         passed = omega arith;
         short = t .short;
         long = omega (arith, length-set P at y, t .long);
-        places = d .later .long ∙ t .places;
+        places = d .made .later .long ∙ t .places;
         letters = omega (arith, d .counted, d .few, t .letters);
         room = omega (arith, d .kids-few, n .room);
       }

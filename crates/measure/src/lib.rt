@@ -69,13 +69,8 @@ pub fn measure(
         }
         plan[at] = plan_of(numbers, x);
         sum = sum + layout::letters_in(x);
-        let level = waiting::level_below(next);
-        let below = stack[top - 1];
-        let first = level + layout::first_in(x);
-        waiting::push(&mut stack, top, level, x);
-        let k = layout::kids_in(x);
-        next = waiting::next_of(k, below, first);
-        top = top + k - 1;
+        next = waiting::turn(&mut stack, top, next, x);
+        top = top + layout::kids_in(x) - 1;
         at += 1;
     }
     if 0 < top {

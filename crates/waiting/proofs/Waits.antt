@@ -1,14 +1,14 @@
 -- The stack of waiting numbers: the number that comes next, and those under it, from the top down. The lowest place of the stack holds none.
 use mathlib.Core.Path.{_≡_, refl, ap, subst⁻¹, _∙_}
 use mathlib.Core.List.{List, [], _∷_, _++_}
-use Prim.Native.Nat.{ℕ, zero, suc, _+_, _-_, _*_, _<_, _≤_}
+use Prim.Native.Nat.{ℕ, zero, suc, _+_, _-_, _*_, _/_, _<_, _≤_}
 use native.Mathlib.Omega.{arith}
 use lib.ListN.{length, getD, set, length-set}
 use lib.Seq.{getD-set-same, getD-set-other}
 use Rattle.machine.specs.Machine.{Child, Rule}
 use Rattle.text.specs.Limits.{statesMost, arityMost}
 use Rattle.layout.specs.Leaves.{Holds, stateNo}
-use Rattle.waiting.specs.Waiting.{kids, under, waits, Later, ChildrenPushed, NextIs}
+use Rattle.waiting.specs.Waiting.{kids, under, waits, Later, ChildrenPushed, NextIs, TurnMade}
 
 -- There are as many.
 pub under-long : (W : List ℕ) (n : ℕ) → length (under W n) ≡ n
@@ -61,7 +61,7 @@ Behind cs e n a = (j : ℕ) → suc (suc j) + n ≡ length cs → a ≡ statesMo
 
 -- The stack W′ is the stack W up to place n; above it stand the numbers of the last, the last but one and the last but two of a rule's children
 -- behind the first, with e symbols above them.
-pub record Stacked (W W′ : List ℕ) (n e : ℕ) (cs : List Child) : Type 0 where
+record Stacked (W W′ : List ℕ) (n e : ℕ) (cs : List Child) : Type 0 where
   pub kept : (i : ℕ) → i ≤ n → getD W′ i 0 ≡ getD W i 0
   pub last : Behind cs e 0 (getD W′ (suc n) 0)
   pub second : Behind cs e 1 (getD W′ (suc (suc n)) 0)
@@ -72,7 +72,7 @@ later-behind : {x level n a i : ℕ} {r : Rule} (e : ℕ) (b : ℕ) → b ≡ a 
 later-behind {i = i} {r = r} e b z l h d j m = let s = l .of i r j h m in omega (arith, l .is)
 
 -- Where a rule's children were pushed, they stand on the stack.
-pub pushed-children : {x level i : ℕ} {r : Rule} (W W′ : List ℕ) (n top e : ℕ) → ChildrenPushed x level top W W′ → Holds x i r → level ≡ statesMost * e
+pushed-children : {x level i : ℕ} {r : Rule} (W W′ : List ℕ) (n top e : ℕ) → ChildrenPushed x level top W W′ → Holds x i r → level ≡ statesMost * e
     → top ≡ suc n → top + 2 < length W → Stacked W W′ n e (r .rest)
 pushed-children {x} {level} {i} {r} W W′ n top e p h d t l =
     let s = subst⁻¹ (λ (X : List ℕ). ThreeStored W X n (p .last) (p .second) (p .third)) (p .stored)
@@ -85,7 +85,7 @@ pushed-children {x} {level} {i} {r} W W′ n top e p h d t l =
     }
 
 -- A rule's children come on top of what waits, the first child next, then the second.
-pub push : (W W′ : List ℕ) (n e u next top : ℕ) (cs : List Child) → length cs ≤ arityMost → u ≡ statesMost * e + stateNo cs 0 → Stacked W W′ n e cs
+push : (W W′ : List ℕ) (n e u next top : ℕ) (cs : List Child) → length cs ≤ arityMost → u ≡ statesMost * e + stateNo cs 0 → Stacked W W′ n e cs
     → NextIs (length cs) (getD W n 0) u next → top ≡ n + length cs → waits W′ top next ≡ kids e cs ++ under W n
 unfolding stateNo
 push W W′ n e u next top [] l f₀ s x d = let z : top ≡ n = omega arith in rw z (pop W W′ n next (s .kept) (x .none refl))
@@ -116,3 +116,13 @@ push W W′ n e u next top (c₁ ∷ c₂ ∷ c₃ ∷ c₄ ∷ []) l f₀ s x d
     let i : getD W′ (suc n) 0 ≡ statesMost * e + c₄ .state = s .last 2 refl in
     rw z (cc)
 push W W′ n e u next top (c₁ ∷ c₂ ∷ c₃ ∷ c₄ ∷ c₅ ∷ cs) l f₀ s x d = absurd (omega arith)
+
+-- After a turn with a rule its children wait on the stack, over what waited below.
+pub turn-waits : {x v top next i : ℕ} {W W′ : List ℕ} {r : Rule} (top′ : ℕ) → TurnMade x v top W W′ next → Holds x i r → 0 < top → top + 2 < length W
+    → suc top′ ≡ top + length (r .rest) → waits W′ top′ next ≡ kids (suc (v / statesMost)) (r .rest) ++ under W (top - 1)
+turn-waits {v = v} {top = top} {next = next} {i = i} {W = W} {W′ = W′} {r = r} top′ d h z l e =
+    let above : ℕ = suc (v / statesMost) in
+    let many : d .kids ≡ length (r .rest) = d .many i r h in
+    let first : d .level + d .state ≡ statesMost * above + stateNo (r .rest) 0 = omega (arith, d .level-is, d .first i r h) in
+    push W W′ (top - 1) above (d .level + d .state) next top′ (r .rest) (h .modest .kids) first
+    (pushed-children W W′ (top - 1) top above (d .later) h (d .level-is) (omega arith) l) (rw many at (d .comes)) (omega arith)

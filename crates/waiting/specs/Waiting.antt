@@ -2,7 +2,7 @@
 -- Definitions only.
 use mathlib.Core.Path.{_≡_}
 use mathlib.Core.List.{List, [], _∷_}
-use Prim.Native.Nat.{ℕ, zero, suc, _+_, _*_, _<_, _≤_}
+use Prim.Native.Nat.{ℕ, zero, suc, _+_, _-_, _*_, _/_, _<_, _≤_}
 use lib.ListN.{length, getD, set}
 use Rattle.machine.specs.Machine.{Child, Rule}
 use Rattle.text.specs.Limits.{symbolsMost, statesMost}
@@ -45,6 +45,21 @@ pub record ChildrenPushed (x level top : ℕ) (W W′ : List ℕ) : Type 0 where
 pub record NextIs (k below first next : ℕ) : Type 0 where
   pub none : k ≡ 0 → next ≡ below
   pub some : 0 < k → next ≡ first
+
+-- The number n is what g says of the rule that x tells.
+abbrev pub ToldBy : ℕ → ℕ → (Rule → ℕ) → Type 0
+ToldBy x n g = (i : ℕ) (r : Rule) → Holds x i r → n ≡ g r
+
+-- A turn with the rule that x tells, from the number v on: its children are pushed on the stack W, which is then W′, and the number that comes next.
+pub record TurnMade (x v top : ℕ) (W W′ : List ℕ) (next : ℕ) : Type 0 where
+  pub level : ℕ
+  pub level-is : level ≡ statesMost * suc (v / statesMost)
+  pub state : ℕ
+  pub first : ToldBy x state (λ r. stateNo (r .rest) 0)
+  pub later : ChildrenPushed x level top W W′
+  pub kids : ℕ
+  pub many : ToldBy x kids (λ r. length (r .rest))
+  pub comes : NextIs kids (getD W (top - 1) 0) (level + state) next
 
 -- A turn meets a symbol f and a waiting number that tables may have, with at most 63 symbols above it; the stack of `top` places has one to give, and
 -- room for three.

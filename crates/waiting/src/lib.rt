@@ -5,10 +5,10 @@ ghost use lib.ListN.{length};
 ghost use Rattle.words.specs.Told.{Told};
 ghost use Rattle.text.specs.Limits.{statesMost};
 ghost use Rattle.trees.specs.Shape.{depthMost};
-ghost use Rattle.waiting.specs.Waiting.{ChildrenPushed, NextIs, Usual};
+ghost use Rattle.waiting.specs.Waiting.{ChildrenPushed, NextIs, TurnMade, Usual};
 
 // The level of a waiting number's children: a unit for each symbol above them.
-pub fn level_below(next: usize) -> usize
+fn level_below(next: usize) -> usize
     requires { ⌜ next < statesMost * depthMost ⌝ }
     ensures { λ r. ⌜ (r ≡ statesMost * suc (next / statesMost)) × (r ≤ statesMost * depthMost) ⌝ }
 {
@@ -24,7 +24,7 @@ fn child(level: usize, state: usize) -> u16
 }
 
 // Puts the numbers of a rule's last three children, where they are behind the first, on the stack.
-pub fn push(stack: &mut [u16], top: usize, level: usize, x: u64)
+fn push(stack: &mut [u16], top: usize, level: usize, x: u64)
     requires { ⌜ (level ≤ statesMost * depthMost) × (top + 3 ≤ length (now stack)) ⌝ }
     ensures { λ _. ⌜ ChildrenPushed x level top (now (stack .entry)) (now (stack .exit)) ⌝ }
 {
@@ -34,10 +34,23 @@ pub fn push(stack: &mut [u16], top: usize, level: usize, x: u64)
 }
 
 // The number that comes next: what waits below if a rule has no children, else the first child's.
-pub fn next_of(kids: usize, below: u16, first: usize) -> usize
+fn next_of(kids: usize, below: u16, first: usize) -> usize
     ensures { λ r. ⌜ NextIs kids below first r ⌝ }
 {
     if kids == 0 { below as usize } else { first }
+}
+
+// A turn with the rule that x tells, from the number `next` on: its children are put on the stack, over
+// what waits there; the answer is the number that comes next.
+pub fn turn(stack: &mut [u16], top: usize, next: usize, x: u64) -> usize
+    requires { ⌜ (next < statesMost * depthMost) × (0 < top) × (top + 3 ≤ length (now stack)) ⌝ }
+    ensures { λ r. ⌜ TurnMade x next top (now (stack .entry)) (now (stack .exit)) r ⌝ }
+{
+    let level = level_below(next);
+    let below = stack[top - 1];
+    let first = level + layout::first_in(x);
+    push(stack, top, level, x);
+    next_of(layout::kids_in(x), below, first)
 }
 
 // Whether a number that comes next may meet a symbol: both are some that tables have, and the stack has room.

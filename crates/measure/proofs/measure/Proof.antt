@@ -71,51 +71,34 @@ returns-3 c =
     let h = met (k .before .before) .waits in
     (λ F M o. measuring-lacking (l .inv) F M o h _ (kept k F M o (measuring-state (l .inv) F M o h)) (c .if3 .taken), tt)
 
-level-below-requires : tie.Need-level-below-requires Inv-loop μ-loop
-level-below-requires c κs = met (c .before .before .before .before .before .before) .levels
-
-sub-below : tie.Need-sub-below Inv-loop μ-loop
-sub-below c = met (c .before .before .before .before .before .before .before) .waits
-
-push-requires : tie.Need-push-requires Inv-loop μ-loop
-push-requires c κs =
-    let levelled = c .before .before in
-    let usual = levelled .before .before .before .before .before .before .before in
-    let l = usual .before .before .before .before .before .loop in
-    (levelled .level-below .ensures .1, omega (arith, met usual .room, l .inv .places))
+turn-requires : tie.Need-turn-requires Inv-loop μ-loop
+turn-requires c κs =
+    let looked = c .before .before .before .before .before in
+    let m = met (looked .before .before) in
+    (m .levels, m .waits, omega (arith, m .room, round looked .loop .inv .places))
 
 sub-top : tie.Need-sub-top Inv-loop μ-loop
 sub-top c =
-    let levelled = c .before .before .before .before .before .before in
-    omega (arith, met (levelled .before .before .before .before .before .before .before) .waits)
+    let looked = c .before .before .before .before .before .before .before .before in
+    omega (arith, met (looked .before .before) .waits)
 
 loop-again : tie.Need-loop-again Inv-loop μ-loop
 loop-again c =
-    let pushed = c .before .before .before in
-    let first = pushed .before .before in
-    let levelled = first .before in
-    let counted = levelled .before in
-    let k = counted .before .before .before .before in
-    let t = k .before .before .before .before .before .before in
-    let l = t .before .loop in
-    measuring-next (l .inv) _ (t .loop-test .taken)
-    (subst (λ (f : ℕ). Usual f (l .next) (l .top)) (k .before .before .before .before .wide .ensures .0) (met (k .before .before)))
-    (kept k) (counted .before .before .before .if3 .left)
+    let counted = c .before .before .before .before in
+    let looked = counted .before .before .before .before in
+    let l = round looked .loop in
+    measuring-next (l .inv) _ (looked .before .before .before .before .before .before .loop-test .taken)
+    (subst (λ (f : ℕ). Usual f (l .next) (l .top)) (looked .before .before .before .before .wide .ensures .0) (met (looked .before .before)))
+    (kept looked) (counted .before .before .before .if3 .left)
     (record {
       planned = counted .before .plan-of .ensures;
       letters = counted .letters-in .result;
       few = counted .letters-in .ensures .0;
       written = counted .letters-in .ensures .1;
       counted = refl;
-      level = levelled .level-below .result;
-      level-is = levelled .level-below .ensures .0;
-      first-state = first .first-in .result;
-      first-is = refl;
-      first = first .first-in .ensures .1;
-      later = pushed .push .ensures;
-      kids-few = c .before .kids-in .ensures .0;
-      kids = c .before .kids-in .ensures .1;
-      comes = c .next-of .ensures;
+      made = c .before .before .turn .ensures;
+      kids-few = c .kids-in .ensures .0;
+      kids = c .kids-in .ensures .1;
     })
     refl
 
@@ -149,15 +132,8 @@ measure-spec =
     (λ c. search needs)
     (λ c κs. search needs)
     (λ c. search needs)
-    level-below-requires
-    sub-below
     (λ c. search needs)
-    (λ c. search needs)
-    (λ c κs. search needs)
-    (λ c. search needs)
-    (λ c. search needs)
-    push-requires
-    (λ c κs. search needs)
+    turn-requires
     (λ c κs. search needs)
     (λ c. search needs)
     sub-top
