@@ -108,7 +108,7 @@ owed-kids M e (c ∷ cs) us others vs w k i r l h =
     }
 
 -- The root of the tree for the number v that comes next stands at `at`: its state has a rule, which writes on the trees below; behind these stand the others'.
-pub record RootMet (M : Table) (S : List ℕ) (at v : ℕ) (vs : List ℕ) : Type 0 where
+record RootMet (M : Table) (S : List ℕ) (at v : ℕ) (vs : List ℕ) : Type 0 where
   pub rule : Rule
   pub found : find (M .rows) (v % statesMost) (getD S at 0) ≡ some rule
   pub level : v / statesMost < depthMost

@@ -71,7 +71,8 @@ module _ (F P : List ℕ) (M : Table) (e : ℕ) (vs : List ℕ) where
       }
 
   -- A child: the first tree is its own.
-  part-child : (t : Tree) (ts : Forest) (c : Child) (cs : List Child) (at n : ℕ) → c .state < statesMost → (h : TreeFor F P M t (statesMost * e + c .state) at n)
+  part-child : (t : Tree) (ts : Forest) (c : Child) (cs : List Child) (at n : ℕ) → c .state < statesMost
+      → (h : TreeFor F P M t (statesMost * e + c .state) at n)
       → Parted F P M ts e cs vs (at + length (preorder t)) (h .more) → Parted F P M (t ▸ ts) e (c ∷ cs) vs at n
   unfolding preorders Levelss Planneds restLetters
   part-child t ts c cs at n k h p =

@@ -99,7 +99,8 @@ module _ {F I S P : List ℕ} {letters : ℕ} {u v : Word} {M : Table} (b : Outp
       (subst (λ (x : ℕ). R′ ≡ take (from + x) R₂ ++ v ++ drop (from + x + length v) R₂) (k .many) (p .last))))
 
 -- What a measure that counted says.
-pub measured-counted : {F S P : List ℕ} {M : Table} {q : ℕ} {r : TreeMeasure} (letters : ℕ) → MeasureOf F S P M q r → r ≡ measured.Counted letters → Counted F S P M q letters
+pub measured-counted : {F S P : List ℕ} {M : Table} {q : ℕ} {r : TreeMeasure} (letters : ℕ) → MeasureOf F S P M q r
+    → r ≡ measured.Counted letters → Counted F S P M q letters
 measured-counted {F} {S} {P} {M} {q} letters h e = subst (λ (x : TreeMeasure). MeasureOf F S P M q x) e h
 
 -- It counted few letters.

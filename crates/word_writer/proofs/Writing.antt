@@ -48,7 +48,8 @@ pub record PartWritten (F P R : List ℕ) (M : Table) (levels place : ℕ) (w : 
 
 -- Before a word is put, for every planned tree with a word that n letters of room are enough for.
 pub record Writing (F P : List ℕ) (levels at n : ℕ) (R : List ℕ) (end next left p : ℕ) : Type 0 where
-  pub part : (M : Table) (q : ℕ) (t : Tree) (w : Word) → Due F P at levels n M q t w → PartWritten F P R M (levels - 1) (at + length (preorder t)) w end next left p
+  pub part : (M : Table) (q : ℕ) (t : Tree) (w : Word) → Due F P at levels n M q t w
+      → PartWritten F P R M (levels - 1) (at + length (preorder t)) w end next left p
 
 module _ (F P : List ℕ) (levels at n : ℕ) where
   -- No level is allowed.

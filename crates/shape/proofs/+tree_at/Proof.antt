@@ -44,17 +44,17 @@ Inv-loop levels frames symbols tree at f left₀ next₀ left next =
 abbrev μ-loop : lts.MeasureT-loop
 μ-loop levels frames symbols tree at f left₀ next₀ left next = left
 
--- What is to be shown at a place of the walk, at the measure t.
-abbrev At : ℕ → (lts.Claims → In 2 tree-at-kinds.ps → Out 2 tree-at-kinds.ps tree-at-kinds.r → lts.InvT-loop → lts.MeasureT-loop → Type 0) → Type 0
-At t need = need (K t) (tree-at-at t) tree-at.Post Inv-loop μ-loop
+-- What is known or to be shown at a place of the code, at the measure t.
+abbrev place : ℕ → (lts.Claims → In 2 tree-at-kinds.ps → Out 2 tree-at-kinds.ps tree-at-kinds.r → lts.InvT-loop → lts.MeasureT-loop → Type 0) → Type 0
+place t need = need (K t) (tree-at-at t) tree-at.Post Inv-loop μ-loop
 
-returns : (t : ℕ) → At t lts.Need-returns
+returns : (t : ℕ) → place t lts.Need-returns
 returns t c =
     let a = c .before .before .before .before .args in
     steps.refused-right (a .levels) (a .symbols) (a .at) (a .frames .now) (a .tree .now) (c .refuse .ensures)
     (λ I M o known. steps.stops-early (a .levels) (M .arities) (a .tree .now) (a .at) (c .before .if1 .taken))
 
-returns-2 : (t : ℕ) → At t lts.Need-returns-2
+returns-2 : (t : ℕ) → place t lts.Need-returns-2
 returns-2 t c =
     let met = c .before .before in
     let begun = met .before .before .before .before .before in
@@ -64,7 +64,7 @@ returns-2 t c =
     steps.refused-right (a .levels) (a .symbols) (a .at) (a .frames .now) (a .tree .now) (c .refuse2 .ensures) λ I M o known.
     steps.unknown (a .levels) (a .symbols) (a .at) (w .result) (M .arities) (a .tree .now) here (w .ensures .0) known (c .before .if2 .taken)
 
-returns-3 : (t : ℕ) → At t lts.Need-returns-3
+returns-3 : (t : ℕ) → place t lts.Need-returns-3
 returns-3 t c =
     let met = c .before .before .before in
     let begun = met .before .before .before .before .before in
@@ -75,7 +75,7 @@ returns-3 t c =
     steps.too-deep (a .levels) (a .symbols) (a .at) (w .result) (M .arities) (a .tree .now) here (w .ensures .0) known (c .before .before .if2 .left)
     (c .before .if3 .taken)
 
-loop-holds : (t : ℕ) → At t lts.Need-loop-holds
+loop-holds : (t : ℕ) → place t lts.Need-loop-holds
 loop-holds t c =
     let met = c .before .before .before in
     let begun = met .before .before .before .before .before in
@@ -87,7 +87,7 @@ loop-holds t c =
       omega arith,
     )
 
-returns-4 : (t : ℕ) → At t lts.Need-returns-4
+returns-4 : (t : ℕ) → place t lts.Need-returns-4
 returns-4 t c =
     let read = c .before .before in
     let l = read .before .before .loop in
@@ -98,7 +98,7 @@ returns-4 t c =
     (subst (λ (s : Shape). Shaped (treeAt (a .levels - 1) (M .arities) (l .next) (drop (l .next) (a .tree .now))) s) (c .enum-told .given .1)
     (read .tree-at .ensures .0 I M o known)))
 
-loop-again : (t : ℕ) → At t lts.Need-loop-again
+loop-again : (t : ℕ) → place t lts.Need-loop-again
 loop-again t c =
     let read = c .before .before .before in
     let l = read .before .before .loop in
@@ -111,7 +111,7 @@ loop-again t c =
       ended .1,
     )
 
-returns-5 : (t : ℕ) → At t lts.Need-returns-5
+returns-5 : (t : ℕ) → place t lts.Need-returns-5
 returns-5 t c =
     let l = c .before .loop in
     let a = c .before .before .before .before .before .before .before .before .before .before .args in (

@@ -60,26 +60,26 @@ Inv-loop levels numbers tree at q x kids j₀ next₀ j next =
 abbrev μ-loop : lts.MeasureT-loop
 μ-loop levels numbers tree at q x kids j₀ next₀ j next = kids - j
 
--- What is to be shown at a place of the walk, at the measure t.
-abbrev At : ℕ → (lts.Claims → In 2 lacking-kinds.ps → Out 2 lacking-kinds.ps lacking-kinds.r → lts.InvT-loop → lts.MeasureT-loop → Type 0) → Type 0
-At t need = need (K t) (lacking-at t) lacking.Post Inv-loop μ-loop
+-- What is known or to be shown at a place of the code, at the measure t.
+abbrev place : ℕ → (lts.Claims → In 2 lacking-kinds.ps → Out 2 lacking-kinds.ps lacking-kinds.r → lts.InvT-loop → lts.MeasureT-loop → Type 0) → Type 0
+place t need = need (K t) (lacking-at t) lacking.Post Inv-loop μ-loop
 
 -- The places' records at the measure t: the entry, a rule that was looked up, its children counted, the loop's test, a child that was walked down.
 module _ (t : ℕ) where
   abbrev Start : Type 0
-  Start = At t lts.Start
+  Start = place t lts.Start
 
   abbrev Looked : Type 0
-  Looked = At t lts.After-kept-for
+  Looked = place t lts.After-kept-for
 
   abbrev Begun : Type 0
-  Begun = At t lts.After-kids-in
+  Begun = place t lts.After-kids-in
 
   abbrev Round : Type 0
-  Round = At t lts.At-loop
+  Round = place t lts.At-loop
 
   abbrev Turn : Type 0
-  Turn = At t lts.After-lacking
+  Turn = place t lts.After-lacking
 
   abbrev looked-start : Looked → Start
   looked-start c = c .before .before .before .before .before .before .before
@@ -104,17 +104,17 @@ module _ (t : ℕ) where
   child-onward : (c : Turn) (next : ℕ) → c .lacking .result ≡ Ends next → (turn-round c .loop .next < next) × (next ≤ length (turn-start c .args .tree .now))
   child-onward c next e = onward-ends (turn-round c .loop .next) (length (turn-start c .args .tree .now)) (c .lacking .result) next e (c .lacking .ensures .1)
 
-returns : (t : ℕ) → At t lts.Need-returns
+returns : (t : ℕ) → place t lts.Need-returns
 returns t c = (
   λ F M t′ h. absurd
       (⊎-elim (λ w. no-level t′ _ (w .taken) (h .levels)) (λ w. no-byte t′ h (le-of-eq (sym (eqb-true _ _ (w .1 .taken))))) (c .if1 .came)),
   tt,
 )
 
-shared-slice-read-wide : (t : ℕ) → At t lts.Need-shared-slice-read-wide
+shared-slice-read-wide : (t : ℕ) → place t lts.Need-shared-slice-read-wide
 shared-slice-read-wide t c = omega (arith, c .before .if2 .left, eqb-false)
 
-returns-2 : (t : ℕ) → At t lts.Need-returns-2
+returns-2 : (t : ℕ) → place t lts.Need-returns-2
 returns-2 t c =
     let k = c .before in
     let a = looked-start t k .args in
@@ -124,7 +124,7 @@ returns-2 t c =
       tt,
     )
 
-loop-holds : (t : ℕ) → At t lts.Need-loop-holds
+loop-holds : (t : ℕ) → place t lts.Need-loop-holds
 loop-holds t c =
     let k = c .before .before in
     let a = looked-start t k .args in
@@ -134,7 +134,7 @@ loop-holds t c =
       omega (arith, first-there t k),
     )
 
-returns-3 : (t : ℕ) → At t lts.Need-returns-3
+returns-3 : (t : ℕ) → place t lts.Need-returns-3
 returns-3 t c =
     let u = c .before .before in
     let a = turn-start t u .args in
@@ -148,7 +148,7 @@ returns-3 t c =
       onward-lacks (a .at) (length (a .tree .now)) (m .result) p (c .enum-told .given .1),
     )
 
-loop-again : (t : ℕ) → At t lts.Need-loop-again
+loop-again : (t : ℕ) → place t lts.Need-loop-again
 loop-again t c =
     let u = c .before .before .before in
     let a = turn-start t u .args in
@@ -165,7 +165,7 @@ loop-again t c =
       o .1,
     )
 
-returns-4 : (t : ℕ) → At t lts.Need-returns-4
+returns-4 : (t : ℕ) → place t lts.Need-returns-4
 returns-4 t c =
     let a = round-start t (c .before) .args in
     let l = c .before .loop in

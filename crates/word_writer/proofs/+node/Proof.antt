@@ -56,26 +56,26 @@ Inv-loop levels plan frames at room₀ lower entry p₀ left₀ end₀ next₀ r
 abbrev μ-loop : lts.MeasureT-loop
 μ-loop levels plan frames at room₀ lower entry p₀ left₀ end₀ next₀ room p left end next = left
 
--- What is to be shown at a place of the walk, at the measure t.
-abbrev At : ℕ → (lts.Claims → In 3 node-kinds.ps → Out 3 node-kinds.ps node-kinds.r → lts.InvT-loop → lts.MeasureT-loop → Type 0) → Type 0
-At t need = need (K t) (node-at t) node.Post Inv-loop μ-loop
+-- What is known or to be shown at a place of the code, at the measure t.
+abbrev place : ℕ → (lts.Claims → In 3 node-kinds.ps → Out 3 node-kinds.ps node-kinds.r → lts.InvT-loop → lts.MeasureT-loop → Type 0) → Type 0
+place t need = need (K t) (node-at t) node.Post Inv-loop μ-loop
 
--- ---- what is known at the places, at the measure t
+-- The places' records at the measure t: the entry, the loop's head, a word that was put, a child that was called for.
 module _ (t : ℕ) where
   abbrev Start : Type 0
-  Start = At t lts.Start
+  Start = place t lts.Start
 
   -- The loop's head.
   abbrev Turn : Type 0
-  Turn = At t lts.At-loop
+  Turn = place t lts.At-loop
 
   -- A word is put.
   abbrev Written : Type 0
-  Written = At t lts.After-put-word
+  Written = place t lts.After-put-word
 
   -- The call for a child has answered.
   abbrev Answered : Type 0
-  Answered = At t lts.After-node
+  Answered = place t lts.After-node
 
   -- From each place to the one above.
   abbrev turn-start : Turn → Start
@@ -89,7 +89,7 @@ module _ (t : ℕ) where
 
   -- A child can be called for.
   abbrev Calling : Type 0
-  Calling = At t lts.Else2
+  Calling = place t lts.Else2
 
   goes : (c : Calling) →
       let p = c .before .before .before .before .before in
@@ -113,15 +113,14 @@ module _ (t : ℕ) where
         kids = c .before .before .before .before .before .if1 .left;
       }
 
--- ---- the needs
-loop-holds : (t : ℕ) → At t lts.Need-loop-holds
+loop-holds : (t : ℕ) → place t lts.Need-loop-holds
 loop-holds t c =
     let a = c .before .before .before .args in
     let first =
     writing-first (a .frames .now) (a .plan .now) (a .levels) (a .at) (length (a .room .now)) (a .room .now) (c .narrow .result) (c .narrow .ensures) in
     (first, omega arith, refl, omega arith, omega arith)
 
-returns : (t : ℕ) → At t lts.Need-returns
+returns : (t : ℕ) → place t lts.Need-returns
 returns t c =
     let p : Written t = c .before .before .before in
     let l = written-turn t p .loop in (
@@ -130,7 +129,7 @@ returns t c =
           (omega (arith, l .inv .4)),
     )
 
-returns-2 : (t : ℕ) → At t lts.Need-returns-2
+returns-2 : (t : ℕ) → place t lts.Need-returns-2
 returns-2 t c =
     let p : Written t = c .before .before .before .before .before in
     let l = written-turn t p .loop in (
@@ -140,13 +139,13 @@ returns-2 t c =
           (omega (arith, l .inv .4)),
     )
 
-spot-behind-requires : (t : ℕ) → At t lts.Need-spot-behind-requires
+spot-behind-requires : (t : ℕ) → place t lts.Need-spot-behind-requires
 spot-behind-requires t c κs = goes t c .spot
 
-node-requires : (t : ℕ) → At t lts.Need-node-requires
+node-requires : (t : ℕ) → place t lts.Need-node-requires
 node-requires t c κs = let g = goes t (c .before .before) in let l = g .level in let h = g .place in search needs
 
-loop-again : (t : ℕ) → At t lts.Need-loop-again
+loop-again : (t : ℕ) → place t lts.Need-loop-again
 loop-again t c =
     let r : Answered t = c .before .before in
     let b = called t r in
