@@ -1,5 +1,6 @@
 -- `find` meets its contract: what writing answers where the tree was counted, else why there is no word. Assumes nothing.
 use Rattle.word_call.proofs.Output.{measured-counted, measured-few, measured-other}
+use native.Mathlib.Omega.{arith}
 use borrow.Author.Needs.{needs}
 use Rattle.word_call.proofs.find.Statement.{statement}
 use Rattle.word_call.proofs.find.Tie as tie
@@ -15,7 +16,7 @@ write-requires : tie.Need-write-requires
 write-requires c κs =
     let counted = c .before .before .before in
     let m = counted .before .before .measure in
-    measured-few (m .result) _ (m .ensures .1) (counted .counted .given .1)
+    omega (arith, measured-few (m .result) _ (m .ensures .1) (counted .counted .given .1))
 
 returns-2 : tie.Need-returns-2
 returns-2 c =
