@@ -10,7 +10,7 @@ use Rattle.machine.proofs.Find.{find-fits}
 use Rattle.text.specs.Limits.{statesMost, symbolsMost, lettersMost}
 use Rattle.layout.specs.Layout.{Opened}
 use Rattle.layout.specs.Leaves.{Tells, Kept}
-use Rattle.measure.proofs.Held.{Fitted}
+use Rattle.waiting.proofs.TreesFor.{Fitted}
 
 -- The states of children within the limits are few enough.
 states-small : (cs : List Child) → Each (λ c ds. (length (c .after) ≤ lettersMost) × (c .state < statesMost)) cs → Each (λ c ds. c .state < statesMost) cs

@@ -13,18 +13,18 @@ use Rattle.trees.proofs.Whole.{read-sound}
 use Rattle.layout.specs.Layout.{ruleLetters, Opened}
 use Rattle.layout.specs.Leaves.{Holds, Tells, Kept, stateNo}
 use Rattle.walk.specs.Walked.{Wordless}
-use Rattle.walk.specs.Plan.{Names}
-use Rattle.measure.specs.Tallied.{Counted, Ready, Usual, NextIs}
-use Rattle.measure.proofs.Held.{kids}
-use Rattle.measure.proofs.Going.{Going, going-first, going-next, going-last}
-use Rattle.measure.proofs.Waits.{under, under-long, waits, waits-some, stored, Behind, push}
+use Rattle.walk.specs.Plan.{Names, Counted}
+use Rattle.waiting.specs.Waiting.{under, waits, ToldBy, TurnMade, Usual}
+use Rattle.waiting.proofs.WholeFrom.{WholeFrom, whole-first, whole-next, whole-last}
+use Rattle.waiting.proofs.Waits.{under-long, waits-some, turn-waits}
+use Rattle.measure.specs.Measures.{Measurable}
 use Rattle.measure.proofs.Ruled.{told-fits, found-symbol, found-kept}
-use Rattle.measure.proofs.Owed.{Worded, wordless, Owing, owing-first, owing-next, owing-none, owing-early, owing-met}
+use Rattle.waiting.proofs.Owed.{Worded, wordless, Owing, owing-first, owing-next, owing-none, owing-early, owing-met}
 
 -- The symbols of the bytes S before `at` are passed, from the initial state on, the plan P is made of them, and the sum is of their letters; the stack W
 -- with `top` places and the number `next` say what waits, which decides the whole and is owed trees by it.
-pub record Tallying (I S P W : List ℕ) (top next sum at : ℕ) : Type 0 where
-  pub going : (F : List ℕ) (M : Table) → Opened F I M → Going F S P M (M .start) (waits W top next) at sum
+pub record Measuring (I S P W : List ℕ) (top next sum at : ℕ) : Type 0 where
+  pub decides : (F : List ℕ) (M : Table) → Opened F I M → WholeFrom F S P M (M .start) (waits W top next) at sum
   pub owing : (F : List ℕ) (M : Table) → Opened F I M → Owing S M (M .start) (waits W top next) at
   pub passed : at ≤ length S
   pub short : length S ≤ treeMost
@@ -34,10 +34,10 @@ pub record Tallying (I S P W : List ℕ) (top next sum at : ℕ) : Type 0 where
   pub room : top ≤ 206
 
 -- At first the initial state waits.
-pub tallying-first : (I S P W : List ℕ) (q : ℕ) → length S ≤ treeMost → length S ≤ length P → length W ≡ 208
-    → ((F : List ℕ) (M : Table) → Opened F I M → q ≡ M .start) → Tallying I S P W 1 q 0 0
-tallying-first I S P W q s p w e = record {
-  going = λ F M o. subst (λ (k : ℕ). Going F S P M (M .start) (k ∷ []) 0 0) (sym (e F M o)) (going-first F S P M (M .start) (low F M o) s);
+pub measuring-first : (I S P W : List ℕ) (q : ℕ) → length S ≤ treeMost → length S ≤ length P → length W ≡ 208
+    → ((F : List ℕ) (M : Table) → Opened F I M → q ≡ M .start) → Measuring I S P W 1 q 0 0
+measuring-first I S P W q s p w e = record {
+  decides = λ F M o. subst (λ (k : ℕ). WholeFrom F S P M (M .start) (k ∷ []) 0 0) (sym (e F M o)) (whole-first F S P M (M .start) (low F M o) s);
   owing = λ F M o. subst (λ (k : ℕ). Owing S M (M .start) (k ∷ []) 0) (sym (e F M o)) (owing-first S M (M .start) (low F M o) (o .limited .made .start));
   passed = omega arith;
   short = s;
@@ -51,28 +51,28 @@ tallying-first I S P W q s p w e = record {
     low F M o = omega (arith, o .limited .made .start, o .limited .states)
 
 -- At most 256 letters are counted for each of 32,768 symbols.
-pub tallying-few : {I S P W : List ℕ} {top next sum at : ℕ} → Tallying I S P W top next sum at → sum % 268435456 ≤ 8388608
-tallying-few t = omega (arith, t .letters, t .passed, t .short)
+pub measuring-few : {I S P W : List ℕ} {top next sum at : ℕ} → Measuring I S P W top next sum at → sum % 268435456 ≤ 8388608
+measuring-few t = omega (arith, t .letters, t .passed, t .short)
 
 -- Nothing waits behind the last byte: the tree is counted.
-pub tallying-last : {I S P W : List ℕ} {top next sum at : ℕ} → Tallying I S P W top next sum at → length S ≤ at → top ≤ 0
+pub measuring-last : {I S P W : List ℕ} {top next sum at : ℕ} → Measuring I S P W top next sum at → length S ≤ at → top ≤ 0
     → (F : List ℕ) (M : Table) → Opened F I M → Counted F S P M (M .start) (sum % 268435456)
-tallying-last {I} {S} {P} {W} {top} {next} {sum} {at} t l z F M o =
+measuring-last {I} {S} {P} {W} {top} {next} {sum} {at} t l z F M o =
     let e : top ≡ 0 = omega arith in
-    let g = subst (λ (k : ℕ). Going F S P M (M .start) (waits W k next) at sum) e (t .going F M o) in
+    let g = subst (λ (k : ℕ). WholeFrom F S P M (M .start) (waits W k next) at sum) e (t .decides F M o) in
     let s : sum % 268435456 ≡ sum = omega (arith, t .letters, t .passed, t .short) in
-    rw s (going-last g (omega (arith, t .passed)))
+    rw s (whole-last g (omega (arith, t .passed)))
 
 -- Bytes that the loop cannot go through are no tree with a word.
-pub not-ready : (S P : List ℕ) → length P ≡ treeMost → (Ready S P → ⊥) → (M : Table) (q : ℕ) → Wordless M S q
-not-ready S P p n M q = wordless (λ w. n (worded-ready w))
+pub not-measurable : (S P : List ℕ) → length P ≡ treeMost → (Measurable S P → ⊥) → (M : Table) (q : ℕ) → Wordless M S q
+not-measurable S P p n M q = wordless (λ w. n (worded-measurable w))
   where
-    worded-ready : Worded S M q → Ready S P
-    worded-ready w =
+    worded-measurable : Worded S M q → Measurable S P
+    worded-measurable w =
         let s = read-sound (M .arities) S (w .tree) (w .read) in
         record { some = rw (s .0) (preorder-some (w .tree)); short = s .3; places = omega (arith, s .3) }
 
-module _ {I S P W : List ℕ} {top v sum at : ℕ} (t : Tallying I S P W top v sum at) (F : List ℕ) (M : Table) (o : Opened F I M) where
+module _ {I S P W : List ℕ} {top v sum at : ℕ} (t : Measuring I S P W top v sum at) (F : List ℕ) (M : Table) (o : Opened F I M) where
   -- A turn meets nothing unusual in a tree with a word.
   worded-usual : at < length S → Worded S M (M .start) → Usual (getD S at 0) v top
   worded-usual l w = go top (t .owing F M o)
@@ -89,117 +89,74 @@ module _ {I S P W : List ℕ} {top v sum at : ℕ} (t : Tallying I S P W top v s
           }
 
   -- What is unusual is no tree with a word.
-  pub tallying-unusual : at < length S → (Usual (getD S at 0) v top → ⊥) → Wordless M S (M .start)
-  tallying-unusual l n = wordless (λ w. n (worded-usual l w))
+  pub measuring-unusual : at < length S → (Usual (getD S at 0) v top → ⊥) → Wordless M S (M .start)
+  measuring-unusual l n = wordless (λ w. n (worded-usual l w))
 
   -- What waits where there is a place left is owed trees.
   some-owing : 0 < top → Owing S M (M .start) (v ∷ under W (top - 1)) at
   some-owing h = subst (λ (vs : List ℕ). Owing S M (M .start) vs at) (waits-some W top v h) (t .owing F M o)
 
   -- The number that comes next has a state of the table.
-  pub tallying-state : 0 < top → v % statesMost < M .states
-  tallying-state h = some-owing h .stated .0
+  pub measuring-state : 0 < top → v % statesMost < M .states
+  measuring-state h = some-owing h .stated .0
 
   -- Where the number that comes next meets a symbol for which nothing is kept, there is no tree with a word.
-  pub tallying-lacking : 0 < top → (x : ℕ) → Kept M (v % statesMost) (getD S at 0) x → x ≡ 0 → Wordless M S (M .start)
-  tallying-lacking h x k z = wordless λ w.
+  pub measuring-lacking : 0 < top → (x : ℕ) → Kept M (v % statesMost) (getD S at 0) x → x ≡ 0 → Wordless M S (M .start)
+  measuring-lacking h x k z = wordless λ w.
       let m = owing-met (some-owing h) w in
       found-kept (v % statesMost) (getD S at 0) x (m .0) k (m .1) z
 
   -- Nor is one that has ended where a number waits.
-  pub tallying-early : length S ≤ at → 0 < top → Wordless M S (M .start)
-  tallying-early l h = wordless (λ w. owing-early (some-owing h) l w)
+  pub measuring-early : length S ≤ at → 0 < top → Wordless M S (M .start)
+  measuring-early l h = wordless (λ w. owing-early (some-owing h) l w)
 
--- The number n is what g says of the rule that x tells.
-abbrev pub Reads : ℕ → ℕ → (Rule → ℕ) → Type 0
-Reads x n g = (i : ℕ) (r : Rule) → Holds x i r → n ≡ g r
-
--- The number a is a level and the state of the child with n others behind it, if that is not the first, of the rule that x tells.
-pub record Later (x level n a : ℕ) : Type 0 where
-  pub state : ℕ
-  pub is : a ≡ level + state
-  pub of : (i : ℕ) (r : Rule) (j : ℕ) → Holds x i r → suc (suc j) + n ≡ length (r .rest) → state ≡ stateNo (r .rest) (suc j)
-
--- What a turn does with what is kept, x, for the number v: the plan's number y, the sum, the numbers of the first child and of the three that are stored,
--- and what comes next.
-pub record Turned (I : List ℕ) (x v y sum sum′ u a b c k below next : ℕ) : Type 0 where
+-- What a turn does with what is kept, x, for the number v: the plan's number y, the sum, the stack W′ with so many places more, and what comes next.
+pub record Turned (I W W′ : List ℕ) (x v top y sum sum′ k next : ℕ) : Type 0 where
   pub planned : (F : List ℕ) (M : Table) (q f : ℕ) → Opened F I M → (t : Tells M q f x) → Names F y (t .rule)
   pub letters : ℕ
   pub few : letters < 256
-  pub written : Reads x letters ruleLetters
+  pub written : ToldBy x letters ruleLetters
   pub counted : sum′ ≡ sum + letters
-  pub level : ℕ
-  pub level-is : level ≡ statesMost * suc (v / statesMost)
-  pub first-state : ℕ
-  pub first-is : u ≡ level + first-state
-  pub first : Reads x first-state (λ r. stateNo (r .rest) 0)
-  pub last : Later x level 0 a
-  pub second : Later x level 1 b
-  pub third : Later x level 2 c
+  pub made : TurnMade x v top W W′ next
   pub kids-few : k < 8
-  pub kids : Reads x k (λ r. length (r .rest))
-  pub comes : NextIs k below u next
-
--- The stack after the three stores.
-abbrev pub pushed : List ℕ → ℕ → ℕ → ℕ → ℕ → List ℕ
-pushed W top a b c = set (set (set W top a) (top + 1) b) (top + 2) c
-
--- A number that is a level and a child's state is that child's waiting number.
-later-behind : {x level n a i : ℕ} {r : Rule} (e : ℕ) → Later x level n a → Holds x i r → level ≡ statesMost * e → Behind (r .rest) e n a
-later-behind {i = i} {r = r} e l h d j m = let s = l .of i r j h m in omega (arith, l .is)
-
--- The rule's children wait on the stack after a turn, over what waited below.
-turned-waits : (W : List ℕ) (top v : ℕ) {I : List ℕ} {x y sum sum′ u a b c k next : ℕ} (top′ : ℕ) → length W ≡ 208
-    → Turned I x v y sum sum′ u a b c k (getD W (top - 1) 0) next → 0 < top → top ≤ 200 → top′ ≡ top + k - 1 → {i : ℕ} {r : Rule} → Holds x i r
-    → waits (pushed W top a b c) top′ next ≡ kids (suc (v / statesMost)) (r .rest) ++ under W (top - 1)
-turned-waits W top v {u = u} {a = a} {b = b} {c = c} {k = k} {next = next} top′ w d h l e {i} {r} s =
-    let kk : k ≡ length (r .rest) = d .kids i r s in
-    push W (pushed W top a b c) (top - 1) (suc (v / statesMost)) u a b c next top′ (r .rest) (s .modest .kids)
-    (record {
-      first = omega (arith, d .level-is, d .first-is, d .first i r s);
-      last = later-behind (suc (v / statesMost)) (d .last) s (d .level-is);
-      second = later-behind (suc (v / statesMost)) (d .second) s (d .level-is);
-      third = later-behind (suc (v / statesMost)) (d .third) s (d .level-is);
-    })
-    (stored W (top - 1) top (top + 1) (top + 2) a b c (omega arith) (omega arith) (omega arith) (omega arith))
-    (rw kk at (d .comes))
-    (omega arith)
+  pub kids : ToldBy x k (λ r. length (r .rest))
 
 -- What is kept for the number v and the symbol f, in every table that the lent numbers mean, if v has a state of it.
 abbrev pub KeptAt : List ℕ → ℕ → ℕ → ℕ → Type 0
 KeptAt I v f x = (F : List ℕ) (M : Table) → Opened F I M → v % statesMost < M .states → Kept M (v % statesMost) f x
 
-module _ {I S P W : List ℕ} {top v sum at : ℕ} (t : Tallying I S P W top v sum at) where
+module _ {I S P W W′ : List ℕ} {top v sum at : ℕ} (t : Measuring I S P W top v sum at) where
   -- What waits after a turn decides the whole and is owed trees by it, in every table that the lent numbers mean.
-  turned : {x y sum′ u a b c k next : ℕ} (top′ : ℕ) → at < length S → Usual (getD S at 0) v top
-      → KeptAt I v (getD S at 0) x → (x ≡ 0 → ⊥) → Turned I x v y sum sum′ u a b c k (getD W (top - 1) 0) next → top′ ≡ top + k - 1
+  turned : {x y sum′ k next : ℕ} (top′ : ℕ) → at < length S → Usual (getD S at 0) v top
+      → KeptAt I v (getD S at 0) x → (x ≡ 0 → ⊥) → Turned I W W′ x v top y sum sum′ k next → top′ ≡ top + k - 1
       → (F : List ℕ) (M : Table) → Opened F I M
-      → (let vs = waits (pushed W top a b c) top′ next in Going F S (set P at y) M (M .start) vs (suc at) sum′ × Owing S M (M .start) vs (suc at))
-  turned {x} {y} {sum′} {u} {a} {b} {c} {k} {next} top′ l n kept nz d e F M o =
+      → (let vs = waits W′ top′ next in WholeFrom F S (set P at y) M (M .start) vs (suc at) sum′ × Owing S M (M .start) vs (suc at))
+  turned {x} {y} {sum′} {k} {next} top′ l n kept nz d e F M o =
       let p = v % statesMost in
       let f = getD S at 0 in
-      let r : Tells M p f x = kept F M o (tallying-state t F M o (n .waits)) .some nz in
+      let r : Tells M p f x = kept F M o (measuring-state t F M o (n .waits)) .some nz in
       let fits = told-fits o p f r in
-      let g = subst (λ (vs : List ℕ). Going F S P M (M .start) vs at sum) (waits-some W top v (n .waits)) (t .going F M o) in
-      subst (λ (vs : List ℕ). Going F S (set P at y) M (M .start) vs (suc at) sum′ × Owing S M (M .start) vs (suc at))
-      (sym (turned-waits W top v top′ (t .places) d (n .waits) (n .room) e (r .holds))) (
-        going-next g l (omega (arith, t .long)) (n .levels) (r .rule) y (r .ruled .found) fits (d .planned F M p f o r)
+      let many = d .kids (r .number) (r .rule) (r .holds) in
+      let g = subst (λ (vs : List ℕ). WholeFrom F S P M (M .start) vs at sum) (waits-some W top v (n .waits)) (t .decides F M o) in
+      subst (λ (vs : List ℕ). WholeFrom F S (set P at y) M (M .start) vs (suc at) sum′ × Owing S M (M .start) vs (suc at))
+      (sym (turn-waits top′ (d .made) (r .holds) (n .waits) (omega (arith, t .places, n .room)) (omega (arith, n .waits, many)))) (
+        whole-next g l (omega (arith, t .long)) (n .levels) (r .rule) y (r .ruled .found) fits (d .planned F M p f o r)
             sum′ (omega (arith, d .counted, d .written (r .number) (r .rule) (r .holds))),
         owing-next (some-owing t F M o (n .waits)) (r .rule) (r .ruled .found) fits (r .holds .modest .kids),
       )
 
   -- One turn: the number that comes next meets a symbol for which a rule is kept.
-  pub tallying-next : {x y sum′ u a b c k next : ℕ} (top′ : ℕ) → at < length S → Usual (getD S at 0) v top
-      → KeptAt I v (getD S at 0) x → (x ≡ 0 → ⊥) → Turned I x v y sum sum′ u a b c k (getD W (top - 1) 0) next → top′ ≡ top + k - 1
-      → Tallying I S (set P at y) (pushed W top a b c) top′ next sum′ (at + 1)
-  tallying-next {x} {y} {sum′} {u} {a} {b} {c} {k} {next} top′ l n kept nz d e =
+  pub measuring-next : {x y sum′ k next : ℕ} (top′ : ℕ) → at < length S → Usual (getD S at 0) v top
+      → KeptAt I v (getD S at 0) x → (x ≡ 0 → ⊥) → Turned I W W′ x v top y sum sum′ k next → top′ ≡ top + k - 1
+      → Measuring I S (set P at y) W′ top′ next sum′ (at + 1)
+  measuring-next {x} {y} {sum′} {k} {next} top′ l n kept nz d e =
       record {
-        going = rw (add-one at) (λ F M o. turned top′ l n kept nz d e F M o .0);
+        decides = rw (add-one at) (λ F M o. turned top′ l n kept nz d e F M o .0);
         owing = rw (add-one at) (λ F M o. turned top′ l n kept nz d e F M o .1);
         passed = omega arith;
         short = t .short;
         long = omega (arith, length-set P at y, t .long);
-        places = length-set (set (set W top a) (top + 1) b) (top + 2) c ∙ length-set (set W top a) (top + 1) b ∙ length-set W top a ∙ t .places;
+        places = d .made .later .long ∙ t .places;
         letters = omega (arith, d .counted, d .few, t .letters);
         room = omega (arith, d .kids-few, n .room);
       }

@@ -1,2 +1,2 @@
 -- Measuring a tree.
-pub mod Tallied
+pub mod Measures

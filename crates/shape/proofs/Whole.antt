@@ -75,4 +75,6 @@ module _ (ar S : List ℕ) where
     whole-ends next l h =
         rw read-sized
         (ends-alone (treeAt depthMost ar 0 S) next (Ends next)
-        (λ r e ends. whole-alone S r next ends (left-behind depthMost ar S 0 r e) l (tree-sound depthMost ar 0 S r e .ends ∙ zero-add (length (preorder (r .value))))) h)
+        (λ r e ends.
+        let size = tree-sound depthMost ar 0 S r e .ends ∙ zero-add (length (preorder (r .value))) in
+        whole-alone S r next ends (left-behind depthMost ar S 0 r e) l size) h)

@@ -35,10 +35,12 @@ counted u i n k h e o = rw (add-one, take-suc u i 0, spaces-append) (omega arith
 from : (u : Word) (at : ℕ) → take (length u - at) (drop at u) ≡ drop at u
 from u at = take-all (length u - at) (drop at u) (omega (arith, length-drop at u))
 
--- The count after one piece more, and after the last.
-pub piece : (u : Word) (at k n p : ℕ) → n ≡ suc (spaces (take at u)) → p ≡ spaces (take k (take (length u - at) (drop at u))) → n + p ≡ suc (spaces (take (at + k) u))
+-- The count after one piece more.
+pub piece : (u : Word) (at k n p : ℕ) → n ≡ suc (spaces (take at u)) → p ≡ spaces (take k (take (length u - at) (drop at u)))
+    → n + p ≡ suc (spaces (take (at + k) u))
 piece u at k n p e f = rw (take-add at k u, spaces-append) (omega (arith, rw (from u at) at f))
 
+-- The count after the last piece.
 pub all : (u : Word) (at n p : ℕ) → n ≡ suc (spaces (take at u)) → p ≡ spaces (take (length u - at) (drop at u)) → n + p ≡ terms u
 unfolding terms
 all u at n p e f = omega (arith, rw (from u at) at f, spaces-append (take at u) (drop at u), ap spaces (take-append-drop at u))

@@ -14,7 +14,7 @@ use Rattle.layout.proofs.Stretches.{further}
 use Rattle.walk.specs.Walked.{Stands, walked, Onward}
 use Rattle.walk.specs.declared.Walk.{Walk}
 use Rattle.walk.specs.declared.Walk.the-variants.{Ends, Lacks}
-use Rattle.walk.proofs.Left.{Left, Going}
+use Rattle.walk.proofs.LeftToWalk.{LeftToWalk, Walking}
 
 -- A walk that ends lacks nothing.
 walked-ends : (o : Option ℕ) (end after : ℕ) → Ends after ≡ walked o end → (o ≡ none) × (after ≡ end)
@@ -35,7 +35,7 @@ pub onward-lacks : (at len : ℕ) (r : Walk) (p : ℕ) → r ≡ Lacks p → Onw
 onward-lacks at len r p e = rw e tt
 
 module _ {F I S : List ℕ} {at levels : ℕ} {M : Table} {t : Tree} (stands : Stands F I S at levels M t) (below q x j next : ℕ) where
-  module _ (c : Child) (cs : List Child) (t₁ : Tree) (ts : Forest) (h : Left S at below q M t x j next (c ∷ cs) (t₁ ▸ ts)) where
+  module _ (c : Child) (cs : List Child) (t₁ : Tree) (ts : Forest) (h : LeftToWalk S at below q M t x j next (c ∷ cs) (t₁ ▸ ts)) where
     -- The first of the trees that are left stands at the place that was reached.
     child-stands : Stands F I S next below M t₁
     unfolding preorders Levelss
@@ -53,7 +53,7 @@ module _ {F I S : List ℕ} {at levels : ℕ} {M : Table} {t : Tree} (stands : S
     child-first = h .lacking
 
     -- Behind a child that lacks nothing, the others are left.
-    child-passed : (after : ℕ) → lacks M (c .state) t₁ next ≡ none → after ≡ next + length (preorder t₁) → Left S at below q M t x (j + 1) after cs ts
+    child-passed : (after : ℕ) → lacks M (c .state) t₁ next ≡ none → after ≡ next + length (preorder t₁) → LeftToWalk S at below q M t x (j + 1) after cs ts
     unfolding preorders Levelss stateNo
     child-passed after e n =
         record {
@@ -76,13 +76,13 @@ module _ {F I S : List ℕ} {at levels : ℕ} {M : Table} {t : Tree} (stands : S
         one-more : (k : ℕ) → j + 1 + k ≡ j + suc k
         one-more k = omega arith
 
-  module _ (g : Going S at below q M t x j next) (many : ℕ) (told-many : (i : ℕ) (r : Rule) → Holds x i r → many ≡ length (r .rest)) where
+  module _ (g : Walking S at below q M t x j next) (many : ℕ) (told-many : (i : ℕ) (r : Rule) → Holds x i r → many ≡ length (r .rest)) where
     -- Where no child is left, nothing is lacking, and the tree ends there.
-    pub going-last : many ≤ j → Ends next ≡ walked (lacks M q t at) (at + length (preorder t))
+    pub walking-last : many ≤ j → Ends next ≡ walked (lacks M q t at) (at + length (preorder t))
     unfolding lackss preorders
-    going-last z = go (g .0) (g .1) (g .2)
+    walking-last z = go (g .0) (g .1) (g .2)
       where
-        go : (cs : List Child) (ts : Forest) → Left S at below q M t x j next cs ts → Ends next ≡ walked (lacks M q t at) (at + length (preorder t))
+        go : (cs : List Child) (ts : Forest) → LeftToWalk S at below q M t x j next cs ts → Ends next ≡ walked (lacks M q t at) (at + length (preorder t))
         go [] ∅ h = let e : at + length (preorder t) ≡ next = omega (arith, h .end) in rw (h .lacking, e)
         go (c ∷ cs) ts h = absurd (omega (arith, h .kids, told-many (h .number) (h .rule) (h .holds)))
         go [] (t₁ ▸ ts) h = absurd (omega (arith, h .trees))
@@ -90,16 +90,16 @@ module _ {F I S : List ℕ} {at levels : ℕ} {M : Table} {t : Tree} (stands : S
     module _ (due : j < many) (s : ℕ) (told-state : (i : ℕ) (r : Rule) → Holds x i r → j < length (r .rest) → s ≡ stateNo (r .rest) j) (w : Walk)
         (told : (t′ : Tree) → Stands F I S next below M t′ → w ≡ walked (lacks M s t′ next) (next + length (preorder t′))) where
       -- The state is that of the first of the children that are left.
-      child-state : (c : Child) (cs : List Child) (ts : Forest) → Left S at below q M t x j next (c ∷ cs) ts → s ≡ c .state
+      child-state : (c : Child) (cs : List Child) (ts : Forest) → LeftToWalk S at below q M t x j next (c ∷ cs) ts → s ≡ c .state
       unfolding stateNo
       child-state c cs ts h =
           told-state (h .number) (h .rule) (h .holds) (omega (arith, h .kids)) ∙ ap (stateNo (h .rule .rest)) (sym (add-zero j)) ∙ h .states 0
 
       -- A child that lacks nothing is passed.
-      pub going-next : (after : ℕ) → w ≡ Ends after → Going S at below q M t x (j + 1) after
-      going-next after e = go (g .0) (g .1) (g .2)
+      pub walking-next : (after : ℕ) → w ≡ Ends after → Walking S at below q M t x (j + 1) after
+      walking-next after e = go (g .0) (g .1) (g .2)
         where
-          go : (cs : List Child) (ts : Forest) → Left S at below q M t x j next cs ts → Going S at below q M t x (j + 1) after
+          go : (cs : List Child) (ts : Forest) → LeftToWalk S at below q M t x j next cs ts → Walking S at below q M t x (j + 1) after
           go [] ts h = absurd (omega (arith, h .kids, told-many (h .number) (h .rule) (h .holds)))
           go (c ∷ cs) ∅ h = absurd (omega (arith, h .trees))
           go (c ∷ cs) (t₁ ▸ ts) h =
@@ -108,10 +108,10 @@ module _ {F I S : List ℕ} {at levels : ℕ} {M : Table} {t : Tree} (stands : S
               (cs, ts, child-passed c cs t₁ ts h after (ap (λ (y : ℕ). lacks M y t₁ next) (sym k) ∙ m .0) (m .1))
 
       -- What a child lacks, the whole lacks.
-      pub going-lost : (p : ℕ) → w ≡ Lacks p → w ≡ walked (lacks M q t at) (at + length (preorder t))
-      going-lost p e = go (g .0) (g .1) (g .2)
+      pub walking-lost : (p : ℕ) → w ≡ Lacks p → w ≡ walked (lacks M q t at) (at + length (preorder t))
+      walking-lost p e = go (g .0) (g .1) (g .2)
         where
-          go : (cs : List Child) (ts : Forest) → Left S at below q M t x j next cs ts → w ≡ walked (lacks M q t at) (at + length (preorder t))
+          go : (cs : List Child) (ts : Forest) → LeftToWalk S at below q M t x j next cs ts → w ≡ walked (lacks M q t at) (at + length (preorder t))
           go [] ts h = absurd (omega (arith, h .kids, told-many (h .number) (h .rule) (h .holds)))
           go (c ∷ cs) ∅ h = absurd (omega (arith, h .trees))
           go (c ∷ cs) (t₁ ▸ ts) h =

@@ -2,10 +2,13 @@
 use mathlib.Core.Path.{_≡_}
 use mathlib.Core.List.{List, [], _∷_}
 use mathlib.Core.Option.{some}
-use Prim.Native.Nat.{ℕ, suc, _+_, _/_, _%_}
+use Prim.Native.Nat.{ℕ, suc, _+_, _/_, _%_, _≤_}
 use lib.ListN.{length, getD}
-use Rattle.machine.specs.Machine.{Tree, Forest, node, ∅, _▸_, Child, Rule, Table, find}
-use Rattle.trees.specs.Preorder.{preorder}
+use Rattle.words.specs.Word.{Word}
+use Rattle.machine.specs.Machine.{Tree, Forest, node, ∅, _▸_, Child, Rule, Table, find, word}
+use Rattle.machine.specs.Ranks.{Ranked}
+use Rattle.trees.specs.Preorder.{preorder, Levels}
+use Rattle.trees.specs.Shape.{treeMost, depthMost}
 use Rattle.layout.specs.Leaves.{Spot}
 
 -- From this unit on a plan's number tells how many children a rule has, and below it the spot of its first word.
@@ -27,3 +30,16 @@ unfoldable mutual
   Planneds F P M ∅ (c ∷ cs) at = ⊥
   Planneds F P M (t ▸ ts) [] at = ⊥
   Planneds F P M (t ▸ ts) (c ∷ cs) at = Planned F P M t (c .state) at × Planneds F P M ts cs (at + length (preorder t))
+
+-- The bytes S are a tree of at most 32,768 symbols and 64 levels over M's symbols, state q has a word on it with so many letters, and the plan P names
+-- its rules.
+pub record Counted (F S P : List ℕ) (M : Table) (q letters : ℕ) : Type 0 where
+  pub tree : Tree
+  pub bytes : S ≡ preorder tree
+  pub size : length S ≤ treeMost
+  pub ranked : Ranked (M .arities) tree
+  pub levels : Levels tree depthMost
+  pub letters-of : Word
+  pub is : word M q tree ≡ some letters-of
+  pub many : letters ≡ length letters-of
+  pub planned : Planned F P M tree q 0

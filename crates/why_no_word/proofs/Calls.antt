@@ -22,11 +22,11 @@ use Rattle.why_no_word.specs.Answer.{placeOf}
 use Rattle.why_no_word.proofs.Read.{ends-given, shape-no, on-no, read-stands, on-lacking}
 
 -- An opened table, and the answer of the shape check.
-pub record Shown (F I S : List ℕ) (M : Table) (s : Shape) : Type 0 where
+pub record ShapeChecked (F I S : List ℕ) (M : Table) (s : Shape) : Type 0 where
   pub opened : Opened F I M
   pub checked : Checked (readTree (M .arities) S) s
 
-module _ {F I S : List ℕ} {M : Table} {s : Shape} (c : Shown F I S M s) where
+module _ {F I S : List ℕ} {M : Table} {s : Shape} (c : ShapeChecked F I S M s) where
   -- What was answered is what was checked.
   same-shape : (s′ : Shape) → s ≡ s′ → Checked (readTree (M .arities) S) s′
   same-shape s′ e = subst (λ (x : Shape). Checked (readTree (M .arities) S) x) e (c .checked)

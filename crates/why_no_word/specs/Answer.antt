@@ -16,7 +16,8 @@ abbrev pub said : WordAnswer → Reply WordCounts
 said (found.Found letters) = given (record { length = letters .length; terms = letters .terms })
 said (found.Refused r) = refused (r .number) (r .place)
 
--- The answer and the room after it are those of an answer a of the definition: a word's length and terms, its letters first in the room; a refusal, and the room as it was.
+-- The answer and the room after it are those of an answer a of the definition: a word's length and terms, its letters first in the room;
+-- a refusal, and the room as it was.
 pub record Answers (a : Reply Word) (R R′ : List ℕ) (r : WordAnswer) : Type 0 where
   pub answer : said r ≡ mapped lettersOf a
   pub room : R′ ≡ filled R a

@@ -1,4 +1,3 @@
--- Laws of the word call on an opened table: the room after the tree's word and after the three words, and the answer for a tree that was counted.
-pub mod Lent
+-- Laws of the word call on an opened table: the room after the three words, and the answer for a tree that was counted.
 pub mod Room
-pub mod Ready
+pub mod Output

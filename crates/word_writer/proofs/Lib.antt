@@ -1,3 +1,3 @@
 -- Laws of the writing pass by a plan.
 pub mod Planned
-pub mod Going
+pub mod Writing

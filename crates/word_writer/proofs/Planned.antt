@@ -14,10 +14,10 @@ use Rattle.trees.specs.Shape.{treeMost}
 use Rattle.trees.proofs.Levels.{no-level, levels-below}
 use Rattle.layout.specs.Leaves.{Spot}
 use Rattle.walk.specs.Plan.{planUnit, Planned, Planneds}
-use Rattle.word_writer.specs.Penned.{Due}
+use Rattle.word_writer.specs.WordWritten.{Due}
 
 -- The children cs are left, so many: the trees from `next` on, which end at `place`, are planned for them, and they write v.
-pub record Rest (F P : List ℕ) (M : Table) (levels place : ℕ) (v : Word) (next left : ℕ) (cs : List Child) : Type 0 where
+pub record ChildrenLeft (F P : List ℕ) (M : Table) (levels place : ℕ) (v : Word) (next left : ℕ) (cs : List Child) : Type 0 where
   pub ts : Forest
   pub kids : length cs ≡ left
   pub planned : Planneds F P M ts cs next
@@ -26,12 +26,12 @@ pub record Rest (F P : List ℕ) (M : Table) (levels place : ℕ) (v : Word) (ne
   pub passed : next + length (preorders ts) ≡ place
 
 -- The rule of the tree at `at`: its first word stands at spot p, and its children are left behind it.
-pub record Ruled (F P : List ℕ) (M : Table) (levels place : ℕ) (w : Word) (next left p : ℕ) : Type 0 where
+pub record NamedRule (F P : List ℕ) (M : Table) (levels place : ℕ) (w : Word) (next left p : ℕ) : Type 0 where
   pub u : Word
   pub v : Word
   pub cs : List Child
   pub spot : Spot F u cs p
-  pub rest : Rest F P M levels place v next left cs
+  pub rest : ChildrenLeft F P M levels place v next left cs
   pub whole : w ≡ u ++ v
 
 -- With no level allowed there is no tree.
@@ -44,10 +44,10 @@ unfolding preorder
 no-place F P at levels n M q (node f ts) w l d = omega (arith, d .inside)
 
 -- The plan names the tree's rule.
-pub ruled : (F P : List ℕ) (at levels n : ℕ) (M : Table) (q : ℕ) (t : Tree) (w : Word) → Due F P at levels n M q t w
-    → Ruled F P M (levels - 1) (at + length (preorder t)) w (at + 1) (getD P at 0 / planUnit) (getD P at 0 % planUnit)
+pub named-rule : (F P : List ℕ) (at levels n : ℕ) (M : Table) (q : ℕ) (t : Tree) (w : Word) → Due F P at levels n M q t w
+    → NamedRule F P M (levels - 1) (at + length (preorder t)) w (at + 1) (getD P at 0 / planUnit) (getD P at 0 % planUnit)
 unfolding Planned preorder Levels
-ruled F P at levels n M q (node f ts) w d =
+named-rule F P at levels n M q (node f ts) w d =
     let a = word-parts M q f ts w (d .word) in
     let r = d .planned .0 in
     let s : r ≡ a .0 = Option·some-injective _ _ (sym (d .planned .1) ∙ a .2) in
@@ -69,7 +69,7 @@ ruled F P at levels n M q (node f ts) w d =
     }
 
 -- The child that is next of the children cs: its tree t, the word x that its state writes on t, the children behind it, and what they write.
-pub record Next (F P : List ℕ) (M : Table) (levels place : ℕ) (v : Word) (next left : ℕ) (cs : List Child) : Type 0 where
+pub record NextChild (F P : List ℕ) (M : Table) (levels place : ℕ) (v : Word) (next left : ℕ) (cs : List Child) : Type 0 where
   pub child : Child
   pub others : List Child
   pub are : cs ≡ child ∷ others
@@ -79,18 +79,18 @@ pub record Next (F P : List ℕ) (M : Table) (levels place : ℕ) (v : Word) (ne
   pub planned : Planned F P M t (child .state) next
   pub low : Levels t levels
   pub writes : word M (child .state) t ≡ some x
-  pub rest : Rest F P M levels place y (next + length (preorder t)) (left - 1) others
+  pub rest : ChildrenLeft F P M levels place y (next + length (preorder t)) (left - 1) others
   pub whole : v ≡ x ++ (child .after ++ y)
 
 module _ {F P : List ℕ} {M : Table} {levels place : ℕ} {v : Word} {next left : ℕ} where
   -- Where children are left, one is next.
-  pub rest-next : (cs : List Child) → Rest F P M levels place v next left cs → 0 < left → Next F P M levels place v next left cs
+  pub left-next : (cs : List Child) → ChildrenLeft F P M levels place v next left cs → 0 < left → NextChild F P M levels place v next left cs
   unfolding Planned preorder Levels
-  rest-next [] h l = absurd (omega (arith, h .kids))
-  rest-next (c ∷ cs) h l = go (words-parts M (h .ts) c cs v (h .writes))
+  left-next [] h l = absurd (omega (arith, h .kids))
+  left-next (c ∷ cs) h l = go (words-parts M (h .ts) c cs v (h .writes))
     where
       go : (t : Tree) × (us : Forest) × (x : Word) × (y : Word) × (h .ts ≡ t ▸ us) × (word M (c .state) t ≡ some x) × (words M us cs ≡ some y)
-          × (v ≡ x ++ (c .after ++ y)) → Next F P M levels place v next left (c ∷ cs)
+          × (v ≡ x ++ (c .after ++ y)) → NextChild F P M levels place v next left (c ∷ cs)
       go (t, us, x, y, i, j, m, n) =
           let p′ : Planneds F P M (t ▸ us) (c ∷ cs) next = rw i at (h .planned) in
           let d′ : Levelss (t ▸ us) levels = rw i at (h .low) in
@@ -117,17 +117,17 @@ module _ {F P : List ℕ} {M : Table} {levels place : ℕ} {v : Word} {next left
           }
 
   -- Where none is left, nothing is left to write, and the tree has ended.
-  pub rest-last : (cs : List Child) → Rest F P M levels place v next left cs → left ≡ 0 → (v ≡ []) × (next ≡ place)
+  pub left-last : (cs : List Child) → ChildrenLeft F P M levels place v next left cs → left ≡ 0 → (v ≡ []) × (next ≡ place)
   unfolding preorder
-  rest-last [] h l = let a = words-nil M (h .ts) v (h .writes) in let p′ = rw (a .0) at (h .passed) in (a .1, omega arith)
-  rest-last (c ∷ cs) h l = absurd (omega (arith, h .kids))
+  left-last [] h l = let a = words-nil M (h .ts) v (h .writes) in let p′ = rw (a .0) at (h .passed) in (a .1, omega arith)
+  left-last (c ∷ cs) h l = absurd (omega (arith, h .kids))
 
 -- A tree has a place of its own.
 own-place : (t : Tree) → 0 < length (preorder t)
 unfolding preorder
 own-place (node f ts) = omega arith
 
-module _ {F P : List ℕ} {M : Table} {levels place : ℕ} {v : Word} {next left : ℕ} {cs : List Child} (c : Next F P M levels place v next left cs) where
+module _ {F P : List ℕ} {M : Table} {levels place : ℕ} {v : Word} {next left : ℕ} {cs : List Child} (c : NextChild F P M levels place v next left cs) where
   -- A level is left for the child that is next.
   pub next-level : 0 < levels
   next-level = let z : levels ≡ 0 → ⊥ = λ e. no-level (c .t) levels e (c .low) in omega (arith, z)

@@ -1,2 +1,2 @@
 -- The fast writing pass.
-pub mod Penned
+pub mod WordWritten

@@ -7,7 +7,7 @@ ghost use Rattle.words.specs.Told.{Told};
 ghost use Rattle.machine.specs.Machine.{Tree, Table};
 ghost use Rattle.trees.specs.Preorder.{preorder};
 ghost use Rattle.trees.specs.Shape.{treeMost};
-ghost use Rattle.word_writer.specs.Penned.{Due, Penned, Tidy, GoesOn, Onward};
+ghost use Rattle.word_writer.specs.WordWritten.{Due, WordWritten, Tidy, GoesOn, EndsBehind};
 
 fn narrow(x: u32) -> usize
     ensures { λ r. ⌜ r ≡ x ⌝ }
@@ -46,9 +46,9 @@ fn node(
 ) -> usize
     requires { ⌜ (0 < levels) × (at < treeMost) × (length (now room) ≤ 16777216) ⌝ }
     ensures { λ r. ⌜ ((M : Table) (q : ℕ) (t : Tree) (w : Word) → Due (now (frames .entry)) (now (plan .entry)) at levels (length (now (room .entry))) M q t w
-        → Penned w at (length (preorder t)) (now (room .exit)) r) ⌝ }
+        → WordWritten w at (length (preorder t)) (now (room .exit)) r) ⌝ }
     ensures { λ r. ⌜ Tidy (now (room .entry)) (now (room .exit)) r ⌝ }
-    ensures { λ r. ⌜ Onward at r ⌝ }
+    ensures { λ r. ⌜ EndsBehind at r ⌝ }
 {
     let lower = levels - 1;
     let entry = narrow(plan[at]);
@@ -83,9 +83,9 @@ pub fn eval(
 ) -> usize
     requires { ⌜ length (now room) ≤ 16777216 ⌝ }
     ensures { λ r. ⌜ ((M : Table) (q : ℕ) (t : Tree) (w : Word) → Due (now (frames .entry)) (now (plan .entry)) at levels (length (now (room .entry))) M q t w
-        → Penned w at (length (preorder t)) (now (room .exit)) r) ⌝ }
+        → WordWritten w at (length (preorder t)) (now (room .exit)) r) ⌝ }
     ensures { λ r. ⌜ Tidy (now (room .entry)) (now (room .exit)) r ⌝ }
-    ensures { λ r. ⌜ Onward at r ⌝ }
+    ensures { λ r. ⌜ EndsBehind at r ⌝ }
 {
     if layout::TREE <= at {
         return layout::TREE;

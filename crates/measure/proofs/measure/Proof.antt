@@ -6,36 +6,36 @@ use native.Mathlib.Omega.{arith}
 use borrow.Author.Needs.{needs}
 use borrow.Author.Tests.{not-true, not-false}
 use lib.ListN.{length, getD}
-use Rattle.measure.specs.Tallied.{Usual}
-use Rattle.measure.proofs.Turn.{Tallying, not-ready, tallying-first, tallying-next, tallying-last, tallying-few}
-use Rattle.measure.proofs.Turn.{KeptAt, tallying-unusual, tallying-state, tallying-lacking, tallying-early}
+use Rattle.waiting.specs.Waiting.{Usual}
+use Rattle.measure.proofs.Turn.{Measuring, not-measurable, measuring-first, measuring-next, measuring-last, measuring-few}
+use Rattle.measure.proofs.Turn.{KeptAt, measuring-unusual, measuring-state, measuring-lacking, measuring-early}
 use Rattle.measure.proofs.measure.Statement.{statement}
 use Rattle.measure.proofs.measure.Tie as tie
 
 abbrev Inv-loop : tie.InvT-loop
-Inv-loop numbers tree plan₀ waiting₀ top₀ next₀ sum₀ at₀ plan waiting top next sum at = Tallying numbers tree plan waiting top next sum at
+Inv-loop numbers tree plan₀ stack₀ top₀ next₀ sum₀ at₀ plan stack top next sum at = Measuring numbers tree plan stack top next sum at
 
 abbrev μ-loop : tie.MeasureT-loop
-μ-loop numbers tree plan₀ waiting₀ top₀ next₀ sum₀ at₀ plan waiting top next sum at = length tree - at
+μ-loop numbers tree plan₀ stack₀ top₀ next₀ sum₀ at₀ plan stack top next sum at = length tree - at
 
 returns : tie.Need-returns Inv-loop μ-loop
 returns c =
     let a = c .before .before .before .before .before .args in
-    (λ F M o. not-ready (a .tree .now) (a .plan .now) (search needs) (c .before .ready .ensures .if-false (not-true _ (c .if1 .taken))) M (M .start), tt)
+    (λ F M o. not-measurable (a .tree .now) (a .plan .now) (search needs) (c .before .ready .ensures .if-false (not-true _ (c .if1 .taken))) M (M .start), tt)
 
 loop-holds : tie.Need-loop-holds Inv-loop μ-loop
 loop-holds c =
     let d = c .before .before in
     let a = d .before .before .before .before .before .args in
     let r = d .before .ready .ensures .if-true (not-false _ (d .if1 .left)) in
-    tallying-first (a .numbers .now) (a .tree .now) _ _ (c .start .result) (r .short) (r .places) refl (c .start .ensures .1)
+    measuring-first (a .numbers .now) (a .tree .now) _ _ (c .start .result) (r .short) (r .places) refl (c .start .ensures .1)
 
 returns-2 : tie.Need-returns-2 Inv-loop μ-loop
 returns-2 c =
     let t = c .before .before .before .before in
     let l = t .before .loop in
     let w = c .before .before .wide in (
-      λ F M o. tallying-unusual (l .inv) F M o (t .loop-test .taken)
+      λ F M o. measuring-unusual (l .inv) F M o (t .loop-test .taken)
           (λ u. c .before .usual .ensures .if-false (not-true _ (c .if2 .taken)) (rw (w .ensures .0) u)),
       tt,
     )
@@ -44,15 +44,22 @@ returns-2 c =
 met : (c : tie.Else2 Inv-loop μ-loop) → let l = c .before .before .before .before .before .loop in Usual (c .before .before .wide .result) (l .next) (l .top)
 met c = c .before .usual .ensures .if-true (not-false _ (c .if2 .left))
 
+-- What is kept was looked up; above it the loop's head, and the entry.
+abbrev Looked : Type 0
+Looked = tie.After-kept-here Inv-loop μ-loop
+
+abbrev round : Looked → tie.At-loop Inv-loop μ-loop
+round c = c .before .before .before .before .before .before .before
+
+abbrev start : Looked → tie.Start Inv-loop μ-loop
+start c = round c .before .before .before .before .before .before .before .before
+
 -- What is kept for the number that comes next and its symbol.
-kept : (c : tie.After-kept-here Inv-loop μ-loop) →
-    let l = c .before .before .before .before .before .before .before .loop in
-    let a = c .before .before .before .before .before .before .before .before .before .before .before .before .before .before .before .args in
+kept : (c : Looked) → let l = round c .loop in let a = start c .args in
     KeptAt (a .numbers .now) (l .next) (getD (a .tree .now) (l .at) 0) (c .kept-here .result)
 kept c =
-    let l = c .before .before .before .before .before .before .before .loop in
-    let a = c .before .before .before .before .before .before .before .before .before .before .before .before .before .before .before .args in
-    subst (λ (f : ℕ). KeptAt (a .numbers .now) (l .next) f (c .kept-here .result)) (c .before .before .before .before .wide .ensures .0) (c .kept-here .ensures)
+    let symbol = c .before .before .before .before .wide in
+    subst (λ (f : ℕ). KeptAt (start c .args .numbers .now) (round c .loop .next) f (c .kept-here .result)) (symbol .ensures .0) (c .kept-here .ensures)
 
 kept-here-requires : tie.Need-kept-here-requires Inv-loop μ-loop
 kept-here-requires c κs = (search needs, met (c .before) .symbol)
@@ -60,65 +67,48 @@ kept-here-requires c κs = (search needs, met (c .before) .symbol)
 returns-3 : tie.Need-returns-3 Inv-loop μ-loop
 returns-3 c =
     let k = c .before in
-    let l = k .before .before .before .before .before .before .before .loop in
+    let l = round k .loop in
     let h = met (k .before .before) .waits in
-    (λ F M o. tallying-lacking (l .inv) F M o h _ (kept k F M o (tallying-state (l .inv) F M o h)) (c .if3 .taken), tt)
+    (λ F M o. measuring-lacking (l .inv) F M o h _ (kept k F M o (measuring-state (l .inv) F M o h)) (c .if3 .taken), tt)
 
-level-below-requires : tie.Need-level-below-requires Inv-loop μ-loop
-level-below-requires c κs = met (c .before .before .before .before .before .before) .levels
-
-sub-below : tie.Need-sub-below Inv-loop μ-loop
-sub-below c = met (c .before .before .before .before .before .before .before) .waits
-
-array-write-waiting-4 : tie.Need-array-write-waiting-4 Inv-loop μ-loop
-array-write-waiting-4 c =
-    let begun = c .before .before .before .before .before .before .before .before in
-    omega (arith, met (begun .before .before .before .before .before .before) .room)
+turn-requires : tie.Need-turn-requires Inv-loop μ-loop
+turn-requires c κs =
+    let looked = c .before .before .before .before .before in
+    let m = met (looked .before .before) in
+    (m .levels, m .waits, omega (arith, m .room, round looked .loop .inv .places))
 
 sub-top : tie.Need-sub-top Inv-loop μ-loop
 sub-top c =
-    let begun = c .before .before .before .before .before .before .before .before .before .before in
-    omega (arith, met (begun .before .before .before .before .before .before) .waits)
+    let looked = c .before .before .before .before .before .before .before .before in
+    omega (arith, met (looked .before .before) .waits)
 
 loop-again : tie.Need-loop-again Inv-loop μ-loop
 loop-again c =
-    let third = c .before .before in
-    let second = third .before .before in
-    let last = second .before .before in
-    let counted = last .before .before .before .before in
-    let k = counted .before .before .before .before in
-    let t = k .before .before .before .before .before .before in
-    let l = t .before .loop in
-    tallying-next (l .inv) _ (t .loop-test .taken)
-    (subst (λ (f : ℕ). Usual f (l .next) (l .top)) (k .before .before .before .before .wide .ensures .0) (met (k .before .before)))
-    (kept k) (counted .before .before .before .if3 .left)
+    let counted = c .before .before .before .before in
+    let looked = counted .before .before .before .before in
+    let l = round looked .loop in
+    measuring-next (l .inv) _ (looked .before .before .before .before .before .before .loop-test .taken)
+    (subst (λ (f : ℕ). Usual f (l .next) (l .top)) (looked .before .before .before .before .wide .ensures .0) (met (looked .before .before)))
+    (kept looked) (counted .before .before .before .if3 .left)
     (record {
       planned = counted .before .plan-of .ensures;
       letters = counted .letters-in .result;
       few = counted .letters-in .ensures .0;
       written = counted .letters-in .ensures .1;
       counted = refl;
-      level = last .before .before .before .level-below .result;
-      level-is = last .before .before .before .level-below .ensures .0;
-      first-state = last .before .before .first-in .result;
-      first-is = refl;
-      first = last .before .before .first-in .ensures .1;
-      last = record { state = last .before .later-in .result; is = last .child .ensures; of = last .before .later-in .ensures .1 };
-      second = record { state = second .before .later-in2 .result; is = second .child2 .ensures; of = second .before .later-in2 .ensures .1 };
-      third = record { state = third .before .later-in3 .result; is = third .child3 .ensures; of = third .before .later-in3 .ensures .1 };
-      kids-few = c .before .kids-in .ensures .0;
-      kids = c .before .kids-in .ensures .1;
-      comes = c .next-of .ensures;
+      made = c .before .before .turn .ensures;
+      kids-few = c .kids-in .ensures .0;
+      kids = c .kids-in .ensures .1;
     })
     refl
 
 returns-4 : tie.Need-returns-4 Inv-loop μ-loop
 returns-4 c =
-    (λ F M o. tallying-early (c .before .before .loop .inv) F M o (c .before .loop-test .left) (c .if4 .taken), tt)
+    (λ F M o. measuring-early (c .before .before .loop .inv) F M o (c .before .loop-test .left) (c .if4 .taken), tt)
 
 returns-5 : tie.Need-returns-5 Inv-loop μ-loop
 returns-5 c =
-    (tallying-last (c .before .before .loop .inv) (c .before .loop-test .left) (c .if4 .left), tallying-few (c .before .before .loop .inv))
+    (measuring-last (c .before .before .loop .inv) (c .before .loop-test .left) (c .if4 .left), measuring-few (c .before .before .loop .inv))
 
 pub measure-spec : {M : Type 1} → statement M
 measure-spec =
@@ -142,27 +132,8 @@ measure-spec =
     (λ c. search needs)
     (λ c κs. search needs)
     (λ c. search needs)
-    level-below-requires
-    sub-below
     (λ c. search needs)
-    (λ c. search needs)
-    (λ c κs. search needs)
-    (λ c. search needs)
-    (λ c κs. search needs)
-    (λ c κs. search needs)
-    (λ c. search needs)
-    (λ c. search needs)
-    (λ c κs. search needs)
-    (λ c κs. search needs)
-    (λ c. search needs)
-    (λ c. search needs)
-    (λ c. search needs)
-    (λ c κs. search needs)
-    (λ c κs. search needs)
-    (λ c. search needs)
-    (λ c. search needs)
-    array-write-waiting-4
-    (λ c κs. search needs)
+    turn-requires
     (λ c κs. search needs)
     (λ c. search needs)
     sub-top

@@ -12,11 +12,11 @@ use Rattle.trees.specs.Shape.{forestAt, treeAt}
 use Rattle.shape.specs.declared.Shape.{Shape}
 use Rattle.shape.specs.Shaped.{Shaped}
 use Rattle.shape.proofs.Steps as steps
-use borrow.Fn.Kinds.{In}
+use borrow.Fn.Kinds.{In, Out}
 use borrow.Fn.PlainCycle.{Measures, is, falls, and}
 use Rattle.shape.proofs.tree_at.Reads as tree-at
 use Rattle.shape.proofs.tree_at.Kinds as tree-at-kinds
-use Rattle.shape.proofs.+tree_at.Lts-tree_at as tree-at-lts
+use Rattle.shape.proofs.+tree_at.Lts-tree_at as lts
 use Rattle.layout.proofs.arity.Reads as arity-reads
 use Rattle.layout.proofs.wide.Reads as wide-reads
 use Rattle.shape.proofs.refuse.Reads as refuse-reads
@@ -32,38 +32,30 @@ tree-at-at t = and 2 tree-at-kinds.ps (is 2 tree-at-kinds.ps μ-tree-at t) tree-
 abbrev tree-at-below : ℕ → In 2 tree-at-kinds.ps
 tree-at-below t = and 2 tree-at-kinds.ps (falls 2 tree-at-kinds.ps _<_ μ-tree-at t) tree-at.Pre
 
-abbrev K : ℕ → tree-at-lts.Claims
+abbrev K : ℕ → lts.Claims
 K t = (refuse-reads.Asked, refuse-reads.Learnt, wide-reads.Asked, wide-reads.Learnt, arity-reads.Asked, arity-reads.Learnt, tree-at-below t, tree-at.Post)
 
-abbrev tree-at-Inv-loop : tree-at-lts.InvT-loop
-tree-at-Inv-loop levels frames symbols tree at f left₀ next₀ left next =
+abbrev Inv-loop : lts.InvT-loop
+Inv-loop levels frames symbols tree at f left₀ next₀ left next =
     ((I : List ℕ) (M : Table) → Opened frames I M → symbols ≡ length (M .arities) → (s : Shape)
     → Shaped (forestAt (treeAt (levels - 1) (M .arities)) left next (drop next tree)) s → Shaped (treeAt levels (M .arities) at (drop at tree)) s)
     × (next ≤ length tree)
 
-abbrev tree-at-μ-loop : tree-at-lts.MeasureT-loop
-tree-at-μ-loop levels frames symbols tree at f left₀ next₀ left next = left
+abbrev μ-loop : lts.MeasureT-loop
+μ-loop levels frames symbols tree at f left₀ next₀ left next = left
 
-tree-at-refuse-requires : (t : ℕ) → tree-at-lts.Need-refuse-requires (K t) (tree-at-at t) tree-at.Post tree-at-Inv-loop tree-at-μ-loop
-tree-at-refuse-requires t c κs = search needs
+-- What is known or to be shown at a place of the code, at the measure t.
+abbrev place : ℕ → (lts.Claims → In 2 tree-at-kinds.ps → Out 2 tree-at-kinds.ps tree-at-kinds.r → lts.InvT-loop → lts.MeasureT-loop → Type 0) → Type 0
+place t need = need (K t) (tree-at-at t) tree-at.Post Inv-loop μ-loop
 
-tree-at-returns : (t : ℕ) → tree-at-lts.Need-returns (K t) (tree-at-at t) tree-at.Post tree-at-Inv-loop tree-at-μ-loop
-tree-at-returns t c =
+returns : (t : ℕ) → place t lts.Need-returns
+returns t c =
     let a = c .before .before .before .before .args in
     steps.refused-right (a .levels) (a .symbols) (a .at) (a .frames .now) (a .tree .now) (c .refuse .ensures)
     (λ I M o known. steps.stops-early (a .levels) (M .arities) (a .tree .now) (a .at) (c .before .if1 .taken))
 
-tree-at-shared-slice-read-wide : (t : ℕ) → tree-at-lts.Need-shared-slice-read-wide (K t) (tree-at-at t) tree-at.Post tree-at-Inv-loop tree-at-μ-loop
-tree-at-shared-slice-read-wide t c = search needs
-
-tree-at-wide-requires : (t : ℕ) → tree-at-lts.Need-wide-requires (K t) (tree-at-at t) tree-at.Post tree-at-Inv-loop tree-at-μ-loop
-tree-at-wide-requires t c κs = search needs
-
-tree-at-refuse-requires-2 : (t : ℕ) → tree-at-lts.Need-refuse-requires-2 (K t) (tree-at-at t) tree-at.Post tree-at-Inv-loop tree-at-μ-loop
-tree-at-refuse-requires-2 t c κs = search needs
-
-tree-at-returns-2 : (t : ℕ) → tree-at-lts.Need-returns-2 (K t) (tree-at-at t) tree-at.Post tree-at-Inv-loop tree-at-μ-loop
-tree-at-returns-2 t c =
+returns-2 : (t : ℕ) → place t lts.Need-returns-2
+returns-2 t c =
     let met = c .before .before in
     let begun = met .before .before .before .before .before in
     let a = begun .args in
@@ -72,11 +64,8 @@ tree-at-returns-2 t c =
     steps.refused-right (a .levels) (a .symbols) (a .at) (a .frames .now) (a .tree .now) (c .refuse2 .ensures) λ I M o known.
     steps.unknown (a .levels) (a .symbols) (a .at) (w .result) (M .arities) (a .tree .now) here (w .ensures .0) known (c .before .if2 .taken)
 
-tree-at-refuse-requires-3 : (t : ℕ) → tree-at-lts.Need-refuse-requires-3 (K t) (tree-at-at t) tree-at.Post tree-at-Inv-loop tree-at-μ-loop
-tree-at-refuse-requires-3 t c κs = search needs
-
-tree-at-returns-3 : (t : ℕ) → tree-at-lts.Need-returns-3 (K t) (tree-at-at t) tree-at.Post tree-at-Inv-loop tree-at-μ-loop
-tree-at-returns-3 t c =
+returns-3 : (t : ℕ) → place t lts.Need-returns-3
+returns-3 t c =
     let met = c .before .before .before in
     let begun = met .before .before .before .before .before in
     let a = begun .args in
@@ -86,14 +75,8 @@ tree-at-returns-3 t c =
     steps.too-deep (a .levels) (a .symbols) (a .at) (w .result) (M .arities) (a .tree .now) here (w .ensures .0) known (c .before .before .if2 .left)
     (c .before .if3 .taken)
 
-tree-at-arity-requires : (t : ℕ) → tree-at-lts.Need-arity-requires (K t) (tree-at-at t) tree-at.Post tree-at-Inv-loop tree-at-μ-loop
-tree-at-arity-requires t c κs = search needs
-
-tree-at-add-next : (t : ℕ) → tree-at-lts.Need-add-next (K t) (tree-at-at t) tree-at.Post tree-at-Inv-loop tree-at-μ-loop
-tree-at-add-next t c = search needs
-
-tree-at-loop-holds : (t : ℕ) → tree-at-lts.Need-loop-holds (K t) (tree-at-at t) tree-at.Post tree-at-Inv-loop tree-at-μ-loop
-tree-at-loop-holds t c =
+loop-holds : (t : ℕ) → place t lts.Need-loop-holds
+loop-holds t c =
     let met = c .before .before .before in
     let begun = met .before .before .before .before .before in
     let a = begun .args in
@@ -104,20 +87,8 @@ tree-at-loop-holds t c =
       omega arith,
     )
 
-tree-at-sub-tree-at : (t : ℕ) → tree-at-lts.Need-sub-tree-at (K t) (tree-at-at t) tree-at.Post tree-at-Inv-loop tree-at-μ-loop
-tree-at-sub-tree-at t c = search needs
-
-tree-at-tree-at-requires : (t : ℕ) → tree-at-lts.Need-tree-at-requires (K t) (tree-at-at t) tree-at.Post tree-at-Inv-loop tree-at-μ-loop
-tree-at-tree-at-requires t c κs = search needs
-
-tree-at-enum-known-below : (t : ℕ) → tree-at-lts.Need-enum-known-below (K t) (tree-at-at t) tree-at.Post tree-at-Inv-loop tree-at-μ-loop
-tree-at-enum-known-below t c = search needs
-
-tree-at-enum-told : (t : ℕ) → tree-at-lts.Need-enum-told (K t) (tree-at-at t) tree-at.Post tree-at-Inv-loop tree-at-μ-loop
-tree-at-enum-told t c = search needs
-
-tree-at-returns-4 : (t : ℕ) → tree-at-lts.Need-returns-4 (K t) (tree-at-at t) tree-at.Post tree-at-Inv-loop tree-at-μ-loop
-tree-at-returns-4 t c =
+returns-4 : (t : ℕ) → place t lts.Need-returns-4
+returns-4 t c =
     let read = c .before .before in
     let l = read .before .before .loop in
     let a = read .before .before .before .before .before .before .before .before .before .before .before .args in
@@ -127,14 +98,8 @@ tree-at-returns-4 t c =
     (subst (λ (s : Shape). Shaped (treeAt (a .levels - 1) (M .arities) (l .next) (drop (l .next) (a .tree .now))) s) (c .enum-told .given .1)
     (read .tree-at .ensures .0 I M o known)))
 
-tree-at-sub-left : (t : ℕ) → tree-at-lts.Need-sub-left (K t) (tree-at-at t) tree-at.Post tree-at-Inv-loop tree-at-μ-loop
-tree-at-sub-left t c = search needs
-
-tree-at-loop-less : (t : ℕ) → tree-at-lts.Need-loop-less (K t) (tree-at-at t) tree-at.Post tree-at-Inv-loop tree-at-μ-loop
-tree-at-loop-less t c = search needs
-
-tree-at-loop-again : (t : ℕ) → tree-at-lts.Need-loop-again (K t) (tree-at-at t) tree-at.Post tree-at-Inv-loop tree-at-μ-loop
-tree-at-loop-again t c =
+loop-again : (t : ℕ) → place t lts.Need-loop-again
+loop-again t c =
     let read = c .before .before .before in
     let l = read .before .before .loop in
     let a = read .before .before .before .before .before .before .before .before .before .before .before .args in
@@ -146,8 +111,8 @@ tree-at-loop-again t c =
       ended .1,
     )
 
-tree-at-returns-5 : (t : ℕ) → tree-at-lts.Need-returns-5 (K t) (tree-at-at t) tree-at.Post tree-at-Inv-loop tree-at-μ-loop
-tree-at-returns-5 t c =
+returns-5 : (t : ℕ) → place t lts.Need-returns-5
+returns-5 t c =
     let l = c .before .loop in
     let a = c .before .before .before .before .before .before .before .before .before .before .args in (
       λ I M o known. l .inv .0 I M o known _
@@ -156,28 +121,28 @@ tree-at-returns-5 t c =
     )
 
 pub +tree-at-spec : {M : Type 1} → statement M
-+tree-at-spec = close μ-tree-at λ t. tree-at-lts.spec (K t)
++tree-at-spec = close μ-tree-at λ t. lts.spec (K t)
     (tree-at-at t)
     tree-at.Post
-    tree-at-Inv-loop
-    tree-at-μ-loop
-    (tree-at-refuse-requires t)
-    (tree-at-returns t)
-    (tree-at-shared-slice-read-wide t)
-    (tree-at-wide-requires t)
-    (tree-at-refuse-requires-2 t)
-    (tree-at-returns-2 t)
-    (tree-at-refuse-requires-3 t)
-    (tree-at-returns-3 t)
-    (tree-at-arity-requires t)
-    (tree-at-add-next t)
-    (tree-at-loop-holds t)
-    (tree-at-sub-tree-at t)
-    (tree-at-tree-at-requires t)
-    (tree-at-enum-known-below t)
-    (tree-at-enum-told t)
-    (tree-at-returns-4 t)
-    (tree-at-sub-left t)
-    (tree-at-loop-less t)
-    (tree-at-loop-again t)
-    (tree-at-returns-5 t)
+    Inv-loop
+    μ-loop
+    (λ c κs. search needs)
+    (returns t)
+    (λ c. search needs)
+    (λ c κs. search needs)
+    (λ c κs. search needs)
+    (returns-2 t)
+    (λ c κs. search needs)
+    (returns-3 t)
+    (λ c κs. search needs)
+    (λ c. search needs)
+    (loop-holds t)
+    (λ c. search needs)
+    (λ c κs. search needs)
+    (λ c. search needs)
+    (λ c. search needs)
+    (returns-4 t)
+    (λ c. search needs)
+    (λ c. search needs)
+    (loop-again t)
+    (returns-5 t)

@@ -19,7 +19,8 @@ abbrev μ-loop : tie.MeasureT-loop
 loop-again : tie.Need-loop-again Inv-loop μ-loop
 loop-again c =
     let l = c .before .before .before .loop in
-    (search needs, law.counted (c .before .before .before .before .before .args .rest .now) (l .i) (l .n) (c .one .result) (omega arith) (l .inv .1) (c .one .ensures .0), search needs)
+    let word = c .before .before .before .before .before .args .rest .now in
+    (search needs, law.counted word (l .i) (l .n) (c .one .result) (omega arith) (l .inv .1) (c .one .ensures .0), search needs)
 
 returns : tie.Need-returns Inv-loop μ-loop
 returns c =

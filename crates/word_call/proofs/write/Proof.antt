@@ -1,6 +1,6 @@
 -- `write` meets its contract: 12 with the length of the three words, or the room filled with them. Assumes nothing.
 use mathlib.Core.Path.{refl}
-use Rattle.word_call.proofs.Ready.{ready-short, ready-fits}
+use Rattle.word_call.proofs.Output.{output-short, output-fits}
 use borrow.Author.Needs.{needs}
 use Rattle.word_call.proofs.write.Statement.{statement}
 use Rattle.word_call.proofs.write.Tie as tie
@@ -10,7 +10,7 @@ returns c =
     let after = c .before in
     let before = after .before .before .before in
     λ S M o k.
-    ready-short
+    output-short
     (record { opened = o; counted = k; first = before .word-before .ensures .1 M o; last = after .word-after .ensures .1 M o })
     (before .before .before .before .before .args .room .now)
     (c .if1 .taken)
@@ -25,19 +25,19 @@ returns-2 c =
     let after = fits .before in
     let before = after .before .before .before in
     λ S M o k.
-    ready-fits
+    output-fits
     (record { opened = o; counted = k; first = before .word-before .ensures .1 M o; last = after .word-after .ensures .1 M o })
-    (before .before .before .before .before .args .room .now)
-    (first .put .last .1 .0)
-    (tree .put-tree .last .1 .1 .1 .0)
-    (last .put2 .last .1 .0)
-    (first .put .result)
     (c .terms-in .result)
     (fits .if1 .left)
-    (first .put .ensures .1)
-    (first .put .ensures .0)
-    (tree .put-tree .ensures)
-    (last .put2 .ensures .1)
+    (record {
+      room₁ = first .put .last .1 .0;
+      room₂ = tree .put-tree .last .1 .1 .1 .0;
+      from = first .put .result;
+      first = first .put .ensures .1;
+      from-is = first .put .ensures .0;
+      tree = tree .put-tree .ensures;
+      last = last .put2 .ensures .1;
+    })
     (c .terms-in .ensures)
     refl
 

@@ -2,7 +2,7 @@
 use mathlib.Core.Path.{refl}
 use native.Mathlib.Omega.{arith}
 use borrow.Author.Needs.{needs}
-use Rattle.word_writer.proofs.Going.{levels-nothing, place-nothing}
+use Rattle.word_writer.proofs.Writing.{levels-nothing, place-nothing}
 use Rattle.word_writer.proofs.eval.Statement.{statement}
 use Rattle.word_writer.proofs.eval.Tie as tie
 
@@ -13,24 +13,16 @@ returns c =
       (record { long = refl; letters = omega arith; place = omega arith }, record { behind = λ l. absurd (omega (arith, c .if1 .taken)); past = λ l. refl }),
     )
 
-add-result : tie.Need-add-result
-add-result c = search needs
-
 returns-2 : tie.Need-returns-2
 returns-2 c =
-    let a = c .before .before .before .args in (
+    let a = c .before .before .before .args in
+    let inside = c .before .if1 .left in (
       λ M q u w d. absurd (levels-nothing (a .frames .now) (a .plan .now) (a .levels) (a .at) _ (c .if2 .taken) M q u w d),
-      (record { long = refl; letters = omega (arith, c .before .if1 .left); place = omega (arith, c .before .if1 .left) }, record { behind = λ l. omega arith; past = λ l. absurd (omega (arith, c .before .if1 .left)) }),
+      (
+        record { long = refl; letters = omega (arith, inside); place = omega (arith, inside) },
+        record { behind = λ l. omega arith; past = λ l. absurd (omega (arith, inside)) },
+      ),
     )
 
-node-requires : tie.Need-node-requires
-node-requires c κs = search needs
-
-same-length : tie.Need-same-length
-same-length c = search needs
-
-returns-3 : tie.Need-returns-3
-returns-3 c = search needs
-
 pub eval-spec : {M : Type 1} → statement M
-eval-spec = tie.close (tie.spec returns add-result returns-2 node-requires same-length returns-3)
+eval-spec = tie.close (tie.spec returns (λ c. search needs) returns-2 (λ c κs. search needs) (λ c. search needs) (λ c. search needs))

@@ -1,0 +1,2 @@
+-- What waits while a tree is measured.
+pub mod Waiting
