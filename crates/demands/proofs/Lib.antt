@@ -1,10 +1,10 @@
 -- The three demands, and where each is proved. A reviewer reads this page first.
 --
 -- 1. Every call comes to an end with an answer or one numbered refusal and its place; a refused call leaves the lent room unchanged.
---    No public call of crate fadurinko has a `requires`. `word` is settled by equations for the answer and the room (crate why_no_word, `Answers`); `form` by the
---    same equations for an answer of its definition (crate form_call, `Answers`); `judge` and `compare` by their definitions, which are relations. Two answers
---    that these allow are equal: crate promises, Judgement.judgement-one for a text; Settled.form-one for a text and so much room, Settled.comparison-one for
---    two texts.
+--    No public call of crate fadurinko has a `requires`. `word` is settled by equations for the answer and the room (crate why_no_word, `Answers`); `form`
+--    by the same equations for an answer of its definition (crate form_call, `FormAnswered`); `judge` and `compare` by their definitions, which are
+--    relations. Two answers that these allow are equal: crate promises, Judgement.judgement-one for a text; Settled.form-one for a text and so much room,
+--    Settled.comparison-one for two texts.
 --    Reading is a function, `readTable`; a refusal has number 1 to 5 and a place within the text: crate text, Refusals.read-refused.
 --
 -- 2. The word is given exactly when the published definition gives it within the limits and it has room: Words.word-published. It is refused exactly for
