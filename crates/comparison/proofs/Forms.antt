@@ -28,7 +28,7 @@ use Rattle.form_call.proofs.Forms.{into-fits}
 use Rattle.comparison.specs.declared.Compared.{Compared}
 use Rattle.comparison.specs.declared.Compared.the-variants as compared
 use Rattle.comparison.specs.Answers.{comparisonOf, apartOf, SameForm, ComparedTables}
-use Rattle.comparison.specs.Parts.{Front}
+use Rattle.comparison.specs.Parts.{BeginsWith}
 
 -- The form of a limited table is within the limits.
 form-within : {M F : Table} → Limited M → IsForm M F → Limited F
@@ -52,7 +52,7 @@ module _ {M : Table} (l : Limited M) (R R′ : List ℕ) (long : length R ≡ te
   formed-never x e = given-refused (length (writeTable (f .form))) (x .number) (x .place) (sym told ∙ ap said e)
 
   -- And the form's text stands first in the room.
-  pub formed-front : (n : ℕ) → r ≡ formed.Form n → Front R′ n (writeTable (f .form))
+  pub formed-front : (n : ℕ) → r ≡ formed.Form n → BeginsWith R′ n (writeTable (f .form))
   formed-front n e =
       record {
         count = given-injective n (length (writeTable (f .form))) (sym (ap said e) ∙ told);

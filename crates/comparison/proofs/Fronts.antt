@@ -10,7 +10,7 @@ use lib.ListN.{length, getD, List·getD-append}
 use lib.Seq.{ext-getD}
 use Rattle.words.specs.Told.{Told}
 use Rattle.same_symbols.specs.Parting.{AlikeFor}
-use Rattle.comparison.specs.Parts.{Front}
+use Rattle.comparison.specs.Parts.{BeginsWith}
 
 -- The first i bytes are the same.
 pub record SameSoFar (X Y : List ℕ) (i : ℕ) : Type 0 where
@@ -34,12 +34,12 @@ pub same-end : {X Y : List ℕ} {i : ℕ} (n : ℕ) → SameSoFar X Y i → i �
 same-end n p h k = record { most = h; same = p .same; apart = λ l e. omega arith }
 
 -- A front's bytes are the bytes.
-front-at : {X : List ℕ} {n : ℕ} {x : List ℕ} (f : Front X n x) (i : ℕ) → i < n → getD X i 0 ≡ getD x i 0
+front-at : {X : List ℕ} {n : ℕ} {x : List ℕ} (f : BeginsWith X n x) (i : ℕ) → i < n → getD X i 0 ≡ getD x i 0
 front-at {X} {n} {x} f i h =
     let c = f .count in
     ap (λ (l : List ℕ). getD l i 0) (f .bytes) ∙ List·getD-append x (f .behind) 0 i (omega arith)
 
-module _ {X Y : List ℕ} {n m : ℕ} {x y : List ℕ} (f : Front X n x) (g : Front Y m y) where
+module _ {X Y : List ℕ} {n m : ℕ} {x y : List ℕ} (f : BeginsWith X n x) (g : BeginsWith Y m y) where
   -- As many bytes that are all the same are the same bytes.
   front-same : n ≡ m → (r : ℕ) → r ≡ n → AlikeFor X Y n r → x ≡ y
   front-same e r k a =

@@ -5,7 +5,7 @@ use Prim.Native.Nat.{ℕ}
 use lib.ListN.{length}
 
 -- The bytes X begin with x, which has n bytes.
-pub record Front (X : List ℕ) (n : ℕ) (x : List ℕ) : Type 0 where
+pub record BeginsWith (X : List ℕ) (n : ℕ) (x : List ℕ) : Type 0 where
   pub count : n ≡ length x
   pub behind : List ℕ
   pub bytes : X ≡ x ++ behind

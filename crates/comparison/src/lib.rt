@@ -12,7 +12,7 @@ ghost use Rattle.machine.specs.Earliest.{Earliest};
 ghost use Rattle.text.specs.Limits.{textMost};
 ghost use Rattle.layout.specs.Layout.{Opened};
 ghost use Rattle.same_symbols.specs.Parting.{AlikeFor};
-ghost use Rattle.comparison.specs.Parts.{Front};
+ghost use Rattle.comparison.specs.Parts.{BeginsWith};
 ghost use Rattle.comparison.specs.Answers.{comparisonOf, apartOf, SameForm, ComparedTables};
 
 // Same, different, or the refusal with the table that it is about: 1, 2, or 0 for number 19.
@@ -52,7 +52,7 @@ fn alike(first: &[u8], second: &[u8], n: usize) -> usize
 
 // Whether the first n bytes of one are the first m bytes of the other.
 fn same_bytes(first: &[u8], n: usize, second: &[u8], m: usize) -> bool
-    ensures { λ r. ⌜ ((x y : List ℕ) → Front (now (first .entry)) n x → Front (now (second .entry)) m y → n ≤ textMost → Told (x ≡ y) r) ⌝ }
+    ensures { λ r. ⌜ ((x y : List ℕ) → BeginsWith (now (first .entry)) n x → BeginsWith (now (second .entry)) m y → n ≤ textMost → Told (x ≡ y) r) ⌝ }
 {
     if n != m {
         return false;
