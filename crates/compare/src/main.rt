@@ -1,7 +1,7 @@
 // Compares the table texts of two files: `same`, `different`, or `no`, the table, the number and the
 // place.
+use comparison::Compared;
 use console::Input;
-use fadurinko::Compared;
 
 fn answer(first: &[u8], second: &[u8]) {
     match fadurinko::compare(first, second) {

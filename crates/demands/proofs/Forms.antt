@@ -18,7 +18,7 @@ use Rattle.text.specs.Writing.{writeTable, Limited}
 use Rattle.text.proofs.Back.{write-read, read-limited}
 use Rattle.text.proofs.Forth.{read-write}
 use Rattle.text.proofs.RoundTrip.{write-injective}
-use Rattle.form_writer.proofs.Short.{form-short, form-limited}
+use Rattle.form_length.proofs.Short.{form-short, form-limited}
 use Rattle.promises.specs.Form.{FormOfText, FormText}
 use Rattle.promises.specs.Comparison.{same, different, ComparisonAnswer}
 use Rattle.promises.proofs.Judgement.{judged-as}

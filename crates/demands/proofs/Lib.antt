@@ -3,7 +3,7 @@
 -- 1. Every call comes to an end with an answer or one numbered refusal and its place; a refused call leaves the lent room unchanged.
 --    No public call of crate fadurinko has a `requires`. What it answers is settled:
 --      `word` by equations for the answer and for every byte of the room: crate why_no_word, specs/Answer, `Answers`;
---      `form` by the same equations for an answer of its definition: crate form_call, specs/Formed, `Answers`;
+--      `form` by the same equations for an answer of its definition: crate form_call, specs/Formed, `FormAnswered`;
 --      `judge` and `compare` by their definitions, which are relations: crate promises, specs/Judgement and specs/Comparison.
 --    Two answers that these allow are equal: crate promises, Judgement.judgement-one, for a text; Settled.form-one, for a text and so
 --    much room; Settled.comparison-one, for two texts.

@@ -16,7 +16,7 @@ use Rattle.text.specs.Writing.{textOf}
 use Rattle.digits.specs.Room.{Wrote}
 
 -- Stores of two lists, one behind the other.
-pub sets-append : (us vs l : List ℕ) (i : ℕ) → sets l i (us ++ vs) ≡ sets (sets l i us) (i + length us) vs
+sets-append : (us vs l : List ℕ) (i : ℕ) → sets l i (us ++ vs) ≡ sets (sets l i us) (i + length us) vs
 sets-append [] vs l i = ap (λ (k : ℕ). sets l k vs) (sym (add-zero i))
 sets-append (u ∷ us) vs l i = sets-append us vs (set l i u) (suc i) ∙ ap (λ (k : ℕ). sets (sets (set l i u) (suc i) us) k vs) place
   where

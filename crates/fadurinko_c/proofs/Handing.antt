@@ -14,7 +14,8 @@ use Rattle.why_no_word.specs.declared.WordAnswer.{WordAnswer}
 use Rattle.why_no_word.specs.Answer as word
 use Rattle.form_call.specs.declared.Formed.{Formed}
 use Rattle.form_call.specs.Formed as form
-use Rattle.fadurinko_c.specs.Linked.{blank, noEntries, numberOf, entriesOf, lettersEntries, lengthEntries, replied, WordLinked, FormLinked, OpenLinked}
+use Rattle.entries.specs.Entries.{blank, noEntries, numberOf, entriesOf, lettersEntries, lengthEntries, replied}
+use Rattle.fadurinko_c.specs.Linked.{WordLinked, FormLinked, OpenLinked}
 
 -- Number and entries stay where a yes gets another value.
 number-mapped : {A B : Type 0} (f : A → B) (a : Reply A) → numberOf (mapped f a) ≡ numberOf a
@@ -36,7 +37,7 @@ word-linked {a} h en ee =
     }
 
 -- The form call hands out what its definition answers.
-pub form-linked : {text R R′ E : List ℕ} {r : Formed} {n : ℕ} → form.Answers text R R′ r → n ≡ numberOf (form.said r)
+pub form-linked : {text R R′ E : List ℕ} {r : Formed} {n : ℕ} → form.FormAnswered text R R′ r → n ≡ numberOf (form.said r)
     → E ≡ entriesOf lengthEntries (form.said r) → FormLinked text R R′ n E
 form-linked h en ee =
     record {

@@ -13,8 +13,8 @@ use Rattle.promises.proofs.Judgement.{judgement-one}
 use Rattle.table.specs.declared.Opening.the-variants as opening
 use Rattle.table.proofs.One.{open-one}
 use Rattle.demands.proofs.Settled.{form-one, comparison-one}
-use Rattle.fadurinko_c.specs.Linked.{Lent, JudgedLinked, OpenLinked, FormLinked, ComparedLinked, numberOf, formEntries}
-use Rattle.fadurinko_c.specs.Linked.{verdictNumber, verdictEntries, comparisonNumber, comparisonEntries}
+use Rattle.entries.specs.Entries.{numberOf, verdictNumber, verdictEntries, comparisonNumber, comparisonEntries}
+use Rattle.fadurinko_c.specs.Linked.{Lent, JudgedLinked, OpenLinked, FormLinked, ComparedLinked, formEntries}
 
 -- What was lent is the same after two openings that answer alike.
 lent-one : (a : Reply Table) (F I F₁ I₁ F₂ I₂ : List ℕ) → Lent F I F₁ I₁ a → Lent F I F₂ I₂ a → (F₁ ≡ F₂) × (I₁ ≡ I₂)
@@ -31,8 +31,8 @@ open-linked-one a F I F₁ I₁ F₂ I₂ h k =
     (h .told ∙ sym (k .told), h .all ∙ sym (k .all), l .0, l .1)
 
 -- Number and entries of one verdict are the same.
-verdict-one : (Right : Verdict → Type 0) (n m : ℕ) (D E : List ℕ) → ((v w : Verdict) → Right v → Right w → v ≡ w) → JudgedLinked Right n D → JudgedLinked Right m E
-    → (n ≡ m) × (D ≡ E)
+verdict-one : (Right : Verdict → Type 0) (n m : ℕ) (D E : List ℕ) → ((v w : Verdict) → Right v → Right w → v ≡ w)
+    → JudgedLinked Right n D → JudgedLinked Right m E → (n ≡ m) × (D ≡ E)
 verdict-one Right n m D E one h k =
     let e = one (h .verdict) (k .verdict) (h .answer) (k .answer) in
     (h .told ∙ ap verdictNumber e ∙ sym (k .told), h .all ∙ ap verdictEntries e ∙ sym (k .all))

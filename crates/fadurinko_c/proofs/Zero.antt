@@ -24,55 +24,60 @@ use Rattle.promises.specs.Judgement.{JudgedReading, JudgementAnswer}
 use Rattle.promises.specs.Form.{FormText, FormAnswer}
 use Rattle.promises.specs.Comparison as paper
 use Rattle.promises.specs.Comparison.{Comparison, ComparisonAnswer}
-use Rattle.fadurinko_c.specs.Linked.{WordLinked, FormLinked, JudgedLinked, ComparedLinked, OpenLinked, numberOf, verdictNumber, comparisonNumber}
+use Rattle.entries.specs.Entries.{numberOf, verdictNumber, comparisonNumber}
+use Rattle.fadurinko_c.specs.Linked.{WordLinked, FormLinked, JudgedLinked, ComparedLinked, OpenLinked}
 
 -- ---- refusals have a number
 
 -- An answer's number, if it is a no, is not 0.
-abbrev Numbered : {A : Type 0} → Reply A → Type 0
-Numbered (given a) = Unit {0}
-Numbered (refusal x) = 1 ≤ x .number
+abbrev NoHasNumber : {A : Type 0} → Reply A → Type 0
+NoHasNumber (given a) = Unit {0}
+NoHasNumber (refusal x) = 1 ≤ x .number
 
 -- What is told of each refusal holds of an answer.
-numbered : {A : Type 0} (a : Reply A) → ((x : No) → a ≡ refusal x → 1 ≤ x .number) → Numbered a
+numbered : {A : Type 0} (a : Reply A) → ((x : No) → a ≡ refusal x → 1 ≤ x .number) → NoHasNumber a
 numbered (given a) h = tt
 numbered (refusal x) h = h x refl
 
-then-numbered : {A B : Type 0} (a : Reply A) (k : A → Reply B) → Numbered a → ((x : A) → Numbered (k x)) → Numbered (a then k)
+then-numbered : {A B : Type 0} (a : Reply A) (k : A → Reply B) → NoHasNumber a → ((x : A) → NoHasNumber (k x)) → NoHasNumber (a then k)
 then-numbered (given x) k h f = f x
 then-numbered (refusal x) k h f = h
 
-if-numbered : {A : Type 0} (b : Bool) (n p : ℕ) (a : Reply A) → 1 ≤ n → Numbered a → Numbered (refuse-if b n p a)
+if-numbered : {A : Type 0} (b : Bool) (n p : ℕ) (a : Reply A) → 1 ≤ n → NoHasNumber a → NoHasNumber (refuse-if b n p a)
 if-numbered true n p a h i = h
 if-numbered false n p a h i = i
 
 -- A text, tree bytes, a word and a room have such answers.
-text-numbered : (t : List ℕ) → Numbered (readTable t)
+text-numbered : (t : List ℕ) → NoHasNumber (readTable t)
 text-numbered t = numbered (readTable t) (λ x e. text.read-refused t (x .number) (x .place) e .0)
 
-tree-numbered : (ar bs : List ℕ) → Numbered (readTree ar bs)
+tree-numbered : (ar bs : List ℕ) → NoHasNumber (readTree ar bs)
 tree-numbered ar bs = numbered (readTree ar bs) (λ x e. omega (arith, trees.cause-number (trees.read-refused ar bs (x .number) (x .place) .0 e) .0))
 
-or-numbered : (w : Option Word) (p : Option ℕ) → Numbered (wordOr w p)
+or-numbered : (w : Option Word) (p : Option ℕ) → NoHasNumber (wordOr w p)
 or-numbered (some w) p = tt
 or-numbered none (some p) = omega arith
 or-numbered none none = omega arith
 
-on-numbered : (M : Table) (tree : List ℕ) → Numbered (wordOn M tree)
+on-numbered : (M : Table) (tree : List ℕ) → NoHasNumber (wordOn M tree)
 unfolding wordOn wordIn
-on-numbered M tree = then-numbered (readTree (M .arities) tree) (wordIn M) (tree-numbered (M .arities) tree) (λ t. or-numbered (output M t) (lacks M (M .start) t 0))
+on-numbered M tree =
+    then-numbered (readTree (M .arities) tree) (wordIn M) (tree-numbered (M .arities) tree)
+    (λ t. or-numbered (output M t) (lacks M (M .start) t 0))
 
-into-numbered : (room : ℕ) (a : Reply (List ℕ)) → Numbered a → Numbered (into room a)
+into-numbered : (room : ℕ) (a : Reply (List ℕ)) → NoHasNumber a → NoHasNumber (into room a)
 into-numbered room a h = then-numbered a _ h (λ out. if-numbered (ltb room (length out)) 12 (length out) (given out) (omega arith) tt)
 
 -- The word call has such an answer.
-find-numbered : (M : Table) (tree : List ℕ) (room : ℕ) → Numbered (wordInto M tree room)
+find-numbered : (M : Table) (tree : List ℕ) (room : ℕ) → NoHasNumber (wordInto M tree room)
 unfolding wordInto
 find-numbered M tree room = into-numbered room (wordOn M tree) (on-numbered M tree)
 
-word-numbered : (text tree : List ℕ) (room : ℕ) → Numbered (wordAnswer text tree room)
+word-numbered : (text tree : List ℕ) (room : ℕ) → NoHasNumber (wordAnswer text tree room)
 unfolding wordAnswer
-word-numbered text tree room = into-numbered room (readTable text then λ M. wordOn M tree) (then-numbered (readTable text) (λ M. wordOn M tree) (text-numbered text) (λ M. on-numbered M tree))
+word-numbered text tree room =
+    into-numbered room (readTable text then λ M. wordOn M tree)
+    (then-numbered (readTable text) (λ M. wordOn M tree) (text-numbered text) (λ M. on-numbered M tree))
 
 -- So has a verdict that is not earliest.
 abbrev AllNumbered : List Condition → Type 0
@@ -94,7 +99,7 @@ judged-numbered M x h = by-numbered (conditions M) x (omega arith, (omega arith,
 judgement-numbered : (text : List ℕ) (x : No) → JudgementAnswer text (lateAs x) → 1 ≤ x .number
 judgement-numbered text x h = go (readTable text) (text-numbered text) h
   where
-    go : (a : Reply Table) → Numbered a → JudgedReading a (lateAs x) → 1 ≤ x .number
+    go : (a : Reply Table) → NoHasNumber a → JudgedReading a (lateAs x) → 1 ≤ x .number
     go (given M) k h = judged-numbered M x h
     go (refusal y) k h =
         let e : x ≡ y = cc in
@@ -102,10 +107,10 @@ judgement-numbered text x h = go (readTable text) (text-numbered text) h
         omega arith
 
 -- So have the form call's answer and the comparison's.
-form-numbered : (text : List ℕ) (room : ℕ) (a : Reply (List ℕ)) → FormAnswer text room a → Numbered a
-form-numbered text room a h = subst (λ (x : Reply (List ℕ)). Numbered x) (sym (h .2)) (into-numbered room (h .0) (go (h .0) (h .1)))
+form-numbered : (text : List ℕ) (room : ℕ) (a : Reply (List ℕ)) → FormAnswer text room a → NoHasNumber a
+form-numbered text room a h = subst (λ (x : Reply (List ℕ)). NoHasNumber x) (sym (h .2)) (into-numbered room (h .0) (go (h .0) (h .1)))
   where
-    go : (b : Reply (List ℕ)) → FormText text b → Numbered b
+    go : (b : Reply (List ℕ)) → FormText text b → NoHasNumber b
     go (given out) k = tt
     go (refusal x) k = judgement-numbered text x k
 
@@ -118,7 +123,7 @@ comparison-numbered one two (suc (suc (suc t))) x h = absurd h
 -- ---- 0 is a yes
 
 -- An answer whose number is 0 is a yes.
-yes-of : {A : Type 0} (a : Reply A) → Numbered a → 0 ≡ numberOf a → (x : A) × (a ≡ given x)
+yes-of : {A : Type 0} (a : Reply A) → NoHasNumber a → 0 ≡ numberOf a → (x : A) × (a ≡ given x)
 yes-of (given x) h e = (x, refl)
 yes-of (refusal x) h e = absurd (omega arith)
 
@@ -128,10 +133,12 @@ earliest-of Right earliest h a e = a
 earliest-of Right (lateAs x) h a e = absurd (omega (arith, h x a))
 
 -- The linked calls tell 0 for a yes only.
-pub word-zero : {E : List ℕ} (text tree R R′ : List ℕ) → WordLinked (wordAnswer text tree (length R)) R R′ 0 E → (w : Word) × (wordAnswer text tree (length R) ≡ given w)
+pub word-zero : {E : List ℕ} (text tree R R′ : List ℕ) → WordLinked (wordAnswer text tree (length R)) R R′ 0 E
+    → (w : Word) × (wordAnswer text tree (length R) ≡ given w)
 word-zero text tree R R′ h = yes-of (wordAnswer text tree (length R)) (word-numbered text tree (length R)) (h .told)
 
-pub find-zero : {E : List ℕ} (M : Table) (tree R R′ : List ℕ) → WordLinked (wordInto M tree (length R)) R R′ 0 E → (w : Word) × (wordInto M tree (length R) ≡ given w)
+pub find-zero : {E : List ℕ} (M : Table) (tree R R′ : List ℕ) → WordLinked (wordInto M tree (length R)) R R′ 0 E
+    → (w : Word) × (wordInto M tree (length R) ≡ given w)
 find-zero M tree R R′ h = yes-of (wordInto M tree (length R)) (find-numbered M tree (length R)) (h .told)
 
 pub judge-zero : {E : List ℕ} (text : List ℕ) → JudgedLinked (λ v. JudgementAnswer text v) 0 E → JudgementAnswer text earliest

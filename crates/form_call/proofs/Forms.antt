@@ -15,8 +15,9 @@ use Rattle.layout.specs.Layout.{Opened}
 use Rattle.classes.specs.Classes.{Classes, TwinClasses}
 use Rattle.classes.proofs.Settled.{twin-classes}
 use Rattle.visit_queue.specs.Queue.{byRep}
-use Rattle.form_writer.specs.Visiting.{StatesNumbered}
-use Rattle.form_writer.specs.Promises.{FormLong, FormWritten}
+use Rattle.form_numbers.specs.Numbers.{StatesNumbered}
+use Rattle.form_length.specs.Long.{FormLong}
+use Rattle.form_writer.specs.Lines.{FormTextWritten}
 use Rattle.form_call.specs.declared.Formed.{Formed}
 use Rattle.form_call.specs.declared.Formed.the-variants as formed
 use Rattle.form_call.specs.Formed.{said, FormInto}
@@ -73,25 +74,22 @@ pub record Measured (F I : List ℕ) (M : Table) (rep O N : List ℕ) (n l : ℕ
   pub numbered : StatesNumbered I rep O N n
   pub long : FormLong F I O n l
 
--- The classes decide sameness in it.
-measured-decides : {F I : List ℕ} {M : Table} {rep O N : List ℕ} {n l : ℕ} → Measured F I M rep O N n l → Decides (byRep rep) M
-measured-decides h = classes-decide (twin-classes (h .opened .limited .made) (h .earliest) (h .parted))
+module _ {F I : List ℕ} {M : Table} {rep O N : List ℕ} {n l : ℕ} (h : Measured F I M rep O N n l) where
+  -- The classes decide sameness in it.
+  decides : Decides (byRep rep) M
+  decides = classes-decide (twin-classes (h .opened .limited .made) (h .earliest) (h .parted))
 
--- The length that was measured is that of the form's text.
-measured-long : {F I : List ℕ} {M : Table} {rep O N : List ℕ} {n l : ℕ} → Measured F I M rep O N n l → l ≡ length (writeTable (formOf (byRep rep) M))
-measured-long {F} {I} {M} {rep} {O} {N} h = h .long (byRep rep) M N (h .opened) (measured-decides h) (h .numbered F M (h .opened))
+  -- The length that was measured is that of the form's text.
+  measured-long : l ≡ length (writeTable (formOf (byRep rep) M))
+  measured-long = h .long (byRep rep) M N (h .opened) decides (h .numbered F M (h .opened))
 
--- Where the measured length is more than the room has, 12 and that length is the answer.
-pub measured-short : {F I : List ℕ} {M : Table} {rep O N : List ℕ} {n l : ℕ} → Measured F I M rep O N n l → (R : List ℕ) (r : Formed)
-    → length R < l → r ≡ formed.Refused (noAt 12 l) → FormInto M R R r
-measured-short {F} {I} {M} {rep} {O} {N} {n} {l} h R r s er = short-into R (byRep rep) l r (measured-decides h) (measured-long h) s er
+  -- Where the measured length is more than the room has, 12 and that length is the answer.
+  pub measured-short : {R : List ℕ} {r : Formed} → length R < l → r ≡ formed.Refused (noAt 12 l) → FormInto M R R r
+  measured-short {R} {r} s er = short-into R (byRep rep) l r decides measured-long s er
 
--- Where it is not, what was written is the form's text.
-pub measured-fits : {F I : List ℕ} {M : Table} {rep O N : List ℕ} {n l : ℕ} → Measured F I M rep O N n l → (R R′ : List ℕ) (k : ℕ) (r : Formed)
-    → l ≤ length R → FormWritten F I O N n R R′ k → r ≡ formed.Form l → FormInto M R R′ r
-measured-fits {F} {I} {M} {rep} {O} {N} {n} {l} h R R′ k r s w er =
-    let D = measured-decides h in
-    let e = measured-long h in
-    let o = w (byRep rep) M (h .opened) D (h .numbered F M (h .opened)) in
-    let fits : length (writeTable (formOf (byRep rep) M)) ≤ length R = omega arith in
-    fits-into R R′ (byRep rep) l r D e s (o .1 fits) er
+  -- Where it is not, what was written is the form's text.
+  pub measured-fits : {R R′ : List ℕ} {r : Formed} (k : ℕ) → l ≤ length R → FormTextWritten F I O N n R R′ k → r ≡ formed.Form l → FormInto M R R′ r
+  measured-fits {R} {R′} {r} k s w er =
+      let e = measured-long in
+      let o = w (byRep rep) M (h .opened) decides (h .numbered F M (h .opened)) in
+      fits-into R R′ (byRep rep) l r decides e s (o .1 (omega arith)) er

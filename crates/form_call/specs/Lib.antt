@@ -1,2 +1,2 @@
--- A text's judgement and form.
+-- What forming a table text answers.
 pub mod Formed

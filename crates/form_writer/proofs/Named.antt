@@ -12,8 +12,8 @@ use Rattle.form_laws.proofs.Lists.{All, all-map}
 use Rattle.form_laws.proofs.Rows.{Children, all-childStates}
 use Rattle.form_laws.proofs.Meaning.{listed-kids}
 use Rattle.text.specs.Writing.{Limited}
-use Rattle.form_writer.specs.Visiting.{Numbered}
-use Rattle.form_writer.specs.Promises.{named}
+use Rattle.form_numbers.specs.Numbers.{NumberedByVisit}
+use Rattle.form_rows.specs.Rows.{named}
 
 module _ (g h : ℕ → ℕ) where
   -- Children have the same numbers by two numberings that agree on them.
@@ -38,7 +38,7 @@ module _ (g h : ℕ → ℕ) where
       (renumbered-agree rows (suc i) qs (λ j l. k (suc j) (omega arith)))
 
 -- The rows by the numbers that N has are the form's.
-pub form-rows : (same : Test) (M : Table) (O N : List ℕ) (n : ℕ) → Limited M → Decides same M → Numbered same M O N n
+pub form-rows : (same : Test) (M : Table) (O N : List ℕ) (n : ℕ) → Limited M → Decides same M → NumberedByVisit same M O N n
     → renumbered (named N) (M .rows) zero (take n O) ≡ renumbered (numberIn same (order same M)) (M .rows) zero (order same M)
 form-rows same M O N n L D h =
     ap (λ (qs : List ℕ). renumbered (named N) (M .rows) zero qs) (h .listed)

@@ -12,8 +12,9 @@ use Rattle.text.specs.Lines.{hexOf, lineOf}
 use Rattle.text.specs.Writing.{textOf, initialFrame, symbolLines, rowLines, writeTable, Limited}
 use Rattle.text.proofs.Digits.{hex-append}
 use Rattle.text.proofs.Stages.{symbols-append}
-use Rattle.form_writer.specs.Visiting.{Numbered}
-use Rattle.form_writer.specs.Promises.{named, initialOf}
+use Rattle.form_numbers.specs.Numbers.{NumberedByVisit}
+use Rattle.form_rows.specs.Rows.{named}
+use Rattle.form_writer.specs.Lines.{initialOf}
 use Rattle.form_writer.proofs.Named.{form-rows}
 
 -- The pieces of a symbol's line.
@@ -35,17 +36,12 @@ unfolding hexOf lineOf
 initial-line n b a =
     rw (hex-append b (0 ∷ textOf a)) (ap (λ (l : List ℕ). l ++ 10 ∷ []) (append-assoc (hexOf (2 ∷ n ∷ textOf b)) (hexOf (0 ∷ [])) (hexOf (textOf a))))
 
-module _ (same : Test) (M : Table) (O N : List ℕ) (n : ℕ) (h : Numbered same M O N n) where
-  -- The order has its place.
-  pub order-there : n ≤ length O
-  order-there = omega (arith, h .count, simp length-take at (ap length (h .listed)))
-
-  -- The pieces of the form's text.
-  pub form-text : (k : ℕ) → Limited M → Decides same M → k ≡ n
-      → symbolLines (M .arities) ++ lineOf (initialOf M k) ++ rowLines (renumbered (named N) (M .rows) zero (take k O)) ++ (hexOf (4 ∷ []) ++ 10 ∷ [])
-      ≡ writeTable (formOf same M)
-  unfolding writeTable formOf lineOf initialFrame
-  form-text k L D e =
-      (λ i. symbolLines (M .arities) ++ lineOf (initialOf M (e i)) ++ rowLines (renumbered (named N) (M .rows) zero (take (e i) O)) ++ lineOf (4 ∷ []))
-      ∙ ap₂ (λ (c : ℕ) (rows : List Row). symbolLines (M .arities) ++ lineOf (initialOf M c) ++ rowLines rows ++ lineOf (4 ∷ []))
-      (h .count) (form-rows same M O N n L D h)
+-- The pieces of the form's text.
+pub form-text : {same : Test} {M : Table} {O N : List ℕ} {n : ℕ} → NumberedByVisit same M O N n → (k : ℕ) → Limited M → Decides same M → k ≡ n
+    → symbolLines (M .arities) ++ lineOf (initialOf M k) ++ rowLines (renumbered (named N) (M .rows) zero (take k O)) ++ (hexOf (4 ∷ []) ++ 10 ∷ [])
+    ≡ writeTable (formOf same M)
+unfolding writeTable formOf lineOf initialFrame
+form-text {same} {M} {O} {N} {n} h k L D e =
+    (λ i. symbolLines (M .arities) ++ lineOf (initialOf M (e i)) ++ rowLines (renumbered (named N) (M .rows) zero (take (e i) O)) ++ lineOf (4 ∷ []))
+    ∙ ap₂ (λ (c : ℕ) (rows : List Row). symbolLines (M .arities) ++ lineOf (initialOf M c) ++ rowLines rows ++ lineOf (4 ∷ []))
+    (h .count) (form-rows same M O N n L D h)

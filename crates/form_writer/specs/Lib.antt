@@ -1,3 +1,2 @@
--- The form of an opened table: its states by first visit, and its text written into a room.
-pub mod Visiting
-pub mod Promises
+-- The form's lines, and its text written into a room.
+pub mod Lines

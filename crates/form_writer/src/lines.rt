@@ -1,6 +1,6 @@
 // The lines of the form before the rules: the symbols, the initial rule.
 ghost use Prim.Native.Nat.{_+_, _<_, _≤_};
-ghost use Rattle.form_writer.specs.Promises.{SymbolsWritten, InitialWritten};
+ghost use Rattle.form_writer.specs.Lines.{SymbolsWritten, InitialWritten};
 use digits::narrow;
 use digits::put;
 use digits::put_byte;

@@ -13,7 +13,7 @@ abbrev pub partingOf : Parted → Option ℕ
 partingOf (At i) = some i
 partingOf Nowhere = none
 
--- Of the first n symbols the first i have one arity in both lists, and the next, if i is below n, has not.
+-- Of the first n entries the first i are the same in both lists, and the next, if i is below n, is not.
 pub record AlikeFor (xs ys : List ℕ) (n i : ℕ) : Type 0 where
   pub most : i ≤ n
   pub same : (j : ℕ) → j < i → getD xs j 0 ≡ getD ys j 0

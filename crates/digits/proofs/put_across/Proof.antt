@@ -10,11 +10,10 @@ use Rattle.digits.proofs.put_across.Tie as tie
 returns : tie.Need-returns
 unfolding hexOf
 returns c =
-    let c7 = c .before .before .before .before .before .before .before in
-    let c8 = c7 .before in (
-      wrote-as (λ i. c8 .digit .ensures i ∷ c .before .before .before .digit2 .ensures i ∷ [])
-          (wrote-then (c7 .put .ensures) (c .before .before .put2 .ensures)),
-      omega (arith, c7 .put .ensures .end, c .before .before .put2 .ensures .end),
+    let second = c .before .before in
+    let first = c .before .before .before .before .before .before .before in (
+      wrote-as (λ i. first .before .digit .ensures i ∷ second .before .digit2 .ensures i ∷ []) (wrote-then (first .put .ensures) (second .put2 .ensures)),
+      omega (arith, first .put .ensures .end, second .put2 .ensures .end),
     )
 
 pub put-across-spec : {M : Type 1} → statement M

@@ -26,30 +26,29 @@ loop-holds c = (omega arith, wrote-none (c .before .before .before .args .room .
 
 put-inside-requires : tie.Need-put-inside-requires Inv-loop μ-loop
 put-inside-requires c κs =
-    let c4 = c .before .before .before .before in
-    let c7 = c4 .before .before .before in
+    let begun = c .before .before .before .before in
+    let start = begun .before .before .before in
     let l = c .before .before .before .loop in
     let t = c .before .before .loop-test .taken in
-    (omega (arith, t, l .inv .2, l .inv .3, c4 .if1 .left), omega (arith, t, l .inv .2, c7 .pre))
+    (omega (arith, t, l .inv .2, l .inv .3, begun .if1 .left), omega (arith, t, l .inv .2, start .pre))
 
 loop-again : tie.Need-loop-again Inv-loop μ-loop
 loop-again c =
-    let c5 = c .before .before .before .before .before in
-    let c6 = c5 .before in
-    let c10 = c6 .before .before .before .before in
-    let l = c6 .loop in
-    let t = c5 .loop-test .taken in (
+    let written = c .before .before .put-inside in
+    let test = c .before .before .before .before .before in
+    let start = test .before .before .before .before .before in
+    let l = test .before .loop in
+    let t = test .loop-test .taken in (
       omega (arith, t),
-      wrote-as (hex-more (c10 .args .bytes .now) (l .i) t) (wrote-then (l .inv .1) (c .before .before .put-inside .ensures .0)),
-      omega
-          (arith, c .before .before .put-inside .ensures .1, l .inv .2),
+      wrote-as (hex-more (start .args .bytes .now) (l .i) t) (wrote-then (l .inv .1) (written .ensures .0)),
+      omega (arith, written .ensures .1, l .inv .2),
       search needs,
     )
 
 returns-2 : tie.Need-returns-2 Inv-loop μ-loop
 returns-2 c =
-    let c5 = c .before .before .before .before .before in
-    (wrote-as (hex-all (c5 .args .bytes .now) (c .before .loop .i) (c .loop-test .left)) (c .before .loop .inv .1), omega arith)
+    let a = c .before .before .before .before .before .args in
+    (wrote-as (hex-all (a .bytes .now) (c .before .loop .i) (c .loop-test .left)) (c .before .loop .inv .1), omega arith)
 
 pub put-hex-spec : {M : Type 1} → statement M
 put-hex-spec =

@@ -23,22 +23,20 @@ loop-holds c = (omega arith, wrote-none (c .before .before .args .room .now) (c 
 
 loop-again : tie.Need-loop-again Inv-loop μ-loop
 loop-again c =
-    let c5 = c .before .before .before .before .before in
-    let c6 = c5 .before in
-    let c9 = c6 .before .before .before in
-    let i = c6 .loop .i in (
+    let written = c .before .before .put-byte in
+    let test = c .before .before .before .before .before in
+    let start = test .before .before .before .before in
+    let l = test .before .loop in (
       omega arith,
-      wrote-as (hex-more (c9 .args .bytes .now) i (c5 .loop-test .taken))
-          (wrote-then (c6 .loop .inv .1) (c .before .before .put-byte .ensures .0)),
-      omega
-          (arith, c .before .before .put-byte .ensures .1, c6 .loop .inv .2),
+      wrote-as (hex-more (start .args .bytes .now) (l .i) (test .loop-test .taken)) (wrote-then (l .inv .1) (written .ensures .0)),
+      omega (arith, written .ensures .1, l .inv .2),
       search needs,
     )
 
 returns : tie.Need-returns Inv-loop μ-loop
 returns c =
-    let c4 = c .before .before .before .before in
-    (wrote-as (hex-all (c4 .args .bytes .now) (c .before .loop .i) (c .loop-test .left)) (c .before .loop .inv .1), omega arith)
+    let a = c .before .before .before .before .args in
+    (wrote-as (hex-all (a .bytes .now) (c .before .loop .i) (c .loop-test .left)) (c .before .loop .inv .1), omega arith)
 
 pub put-hex-across-spec : {M : Type 1} → statement M
 put-hex-across-spec =

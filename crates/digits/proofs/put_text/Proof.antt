@@ -7,12 +7,12 @@ use Rattle.digits.proofs.put_text.Tie as tie
 
 returns : tie.Need-returns
 returns c =
-    let c6 = c .before .before .before .before .before .before in
-    let c7 = c6 .before in
-    let c11 = c7 .before .before .before .before in (
-      wrote-text (c7 .narrow .result) (c11 .args .word .now) (c7 .narrow .ensures (c11 .pre .0)) (c6 .put-byte .ensures .0)
-          (c .before .before .put-hex .ensures .0),
-      omega (arith, c11 .pre .0, c .before .before .put-hex .ensures .1, c6 .put-byte .ensures .1),
+    let letters = c .before .before .put-hex in
+    let count = c .before .before .before .before .before .before in
+    let byte = count .before .narrow in
+    let start = count .before .before .before .before .before in (
+      wrote-text (byte .result) (start .args .word .now) (byte .ensures (start .pre .0)) (count .put-byte .ensures .0) (letters .ensures .0),
+      omega (arith, start .pre .0, letters .ensures .1, count .put-byte .ensures .1),
     )
 
 pub put-text-spec : {M : Type 1} → statement M

@@ -6,20 +6,15 @@ use Rattle.form_call.proofs.form.Tie as tie
 
 returns : tie.Need-returns
 returns c =
-    let c5 = c .before .before .before .before .before in
-    let c10 = c5 .before .before .before .before .before in
-    let j = c5 .judge-into in
-    let t = c .before .enum-told2 .given in
-    late-answers (j .last .1 .0) (j .last .1 .1 .0) (c10 .args .text .now) (c10 .args .room .now) (j .result) (t .0 .0) (c .late-refusal .result) (j .ensures) (t .1) (c .late-refusal .ensures)
+    let judged = c .before .before .before .before .before .judge-into in
+    let told = c .before .enum-told2 .given in
+    late-answers (judged .ensures) (told .0 .0) (told .1) (c .late-refusal .ensures)
 
 returns-2 : tie.Need-returns-2
 returns-2 c =
-    let c6 = c .before .before .before .before .before .before in
-    let c10 = c6 .before .before .before .before in
-    let c15 = c10 .before .before .before .before .before in
-    let j = c10 .judge-into in
-    let f = c .before .before .form-opened in
-    form-answers (j .last .1 .0) (j .last .1 .1 .0) (c15 .args .text .now) (c15 .args .room .now) (f .last .1 .1 .0) (j .result) (f .result) (j .ensures) (c6 .enum-told .given .1) (f .ensures)
+    let told = c .before .before .before .before .before .before in
+    let judged = told .before .before .before .before .judge-into in
+    form-answers (judged .ensures) (told .enum-told .given .1) (c .before .before .form-opened .ensures)
 
 pub form-spec : {M : Type 1} → statement M
 form-spec =

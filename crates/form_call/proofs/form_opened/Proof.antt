@@ -7,21 +7,23 @@ use Rattle.form_call.proofs.form_opened.Tie as tie
 
 returns : tie.Need-returns
 returns c =
-    let c5 = c .before .before .before .before .before in
-    let c10 = c5 .before .before .before .before .before in
-    let c15 = c10 .before .before .before .before .before in
-    λ M o E. measured-short (record { opened = o; earliest = E; parted = c10 .part .ensures .1 M o; numbered = c5 .number .ensures .1; long = c .before .length .ensures }) (c15 .args .room .now) _ (c .if1 .taken) refl
+    let long = c .before .length in
+    let numbered = c .before .before .before .before .before .number in
+    let parted = c .before .before .before .before .before .before .before .before .before .before .part in
+    λ M o E.
+    measured-short (record { opened = o; earliest = E; parted = parted .ensures .1 M o; numbered = numbered .ensures .1; long = long .ensures })
+    (c .if1 .taken) refl
 
 returns-2 : tie.Need-returns-2
 returns-2 c =
-    let c6 = c .before .before .before .before .before .before in
-    let c7 = c6 .before in
-    let c11 = c7 .before .before .before .before in
-    let c16 = c11 .before .before .before .before .before in
-    let c21 = c16 .before .before .before .before .before in
+    let written = c .before .before .write in
+    let fits = c .before .before .before .before .before .before in
+    let long = fits .before .length in
+    let numbered = fits .before .before .before .before .before .number in
+    let parted = fits .before .before .before .before .before .before .before .before .before .before .part in
     λ M o E.
-    measured-fits (record { opened = o; earliest = E; parted = c16 .part .ensures .1 M o; numbered = c11 .number .ensures .1; long = c7 .length .ensures })
-    (c21 .args .room .now) (c .before .before .write .last .1 .1 .1 .1 .1 .0) (c .before .before .write .result) _ (c6 .if1 .left) (c .before .before .write .ensures) refl
+    measured-fits (record { opened = o; earliest = E; parted = parted .ensures .1 M o; numbered = numbered .ensures .1; long = long .ensures })
+    (written .result) (fits .if1 .left) (written .ensures) refl
 
 pub form-opened-spec : {M : Type 1} → statement M
 form-opened-spec =

@@ -1,32 +1,29 @@
 -- `write` meets its contract: the pieces of the form's text in turn.
 use mathlib.Core.Path.{_≡_}
 use native.Mathlib.Omega.{arith}
-use Rattle.form_laws.proofs.Visit.{same-self}
-use Rattle.form_laws.proofs.Order.{order-length}
 use Rattle.digits.proofs.Room.{wrote-then, wrote-as, wrote-filled}
-use Rattle.form_writer.proofs.Text.{form-text, order-there}
+use Rattle.form_numbers.proofs.Naming.{order-there, count-within}
+use Rattle.form_writer.proofs.Text.{form-text}
 use borrow.Author.Needs.{needs}
 use Rattle.form_writer.proofs.write.Statement.{statement}
 use Rattle.form_writer.proofs.write.Tie as tie
 
 returns : tie.Need-returns
 returns c =
-    let c6 = c .before .before .before .before .before .before in
-    let c10 = c6 .before .before .before .before in
-    let c14 = c10 .before .before .before .before in
-    let c18 = c14 .before .before .before .before in
-    let c20 = c18 .before .before in
-    let c26 = c20 .before .before .before .before .before .before in
-    let a = c26 .args in
-    let O = a .order .now in
-    let N = a .names .now in
+    let last = c .before .before .put in
+    let ended = c .before .before .before .before .before .before in
+    let ruled = ended .before .before .before .before in
+    let begun = ruled .before .before .before .before in
+    let listed = begun .before .before .before .before in
+    let counted = listed .before .before in
+    let a = counted .before .before .before .before .before .before .args in
     λ same M o D h.
-    let n : c20 .most .result ≡ a .n = c20 .most .ensures .1 (omega (arith, h .count, order-length same M (o .limited .made) (same-self same M D), o .limited .states)) in
-    let rows = c10 .put-states .ensures .1 M o (omega (arith, order-there same M O N (a .n) h)) in
-    let t = wrote-as (form-text same M O N (a .n) h (c20 .most .result) (o .limited) D n)
-    (wrote-then (wrote-then (wrote-then (c18 .put-symbols .ensures .1 M o) (c14 .put-initial .ensures .1 M o)) rows)
-    (wrote-then (c6 .put-byte .ensures .0) (c .before .before .put .ensures))) in
-    (omega (arith, t .end), λ l. wrote-filled t l)
+    let n : counted .most .result ≡ a .n = counted .most .ensures .1 (count-within h (o .limited) D) in
+    let rows = ruled .put-states .ensures .1 M o (omega (arith, order-there h)) in
+    let text = wrote-as (form-text h (counted .most .result) (o .limited) D n)
+    (wrote-then (wrote-then (wrote-then (listed .put-symbols .ensures .1 M o) (begun .put-initial .ensures .1 M o)) rows)
+    (wrote-then (ended .put-byte .ensures .0) (last .ensures))) in
+    (omega (arith, text .end), λ l. wrote-filled text l)
 
 pub write-spec : {M : Type 1} → statement M
 write-spec =

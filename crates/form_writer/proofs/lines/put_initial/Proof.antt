@@ -13,54 +13,55 @@ use Rattle.form_writer.proofs.lines.put_initial.Tie as tie
 
 put-requires : tie.Need-put-requires
 put-requires c κs =
-    let c5 = c .before .before .before .before .before in
-    let c8 = c5 .before .before .before in
-    let c12 = c8 .before .before .before .before in
-    let c14 = c12 .before .before in
-    let c17 = c14 .before .before .before in
-    let c22 = c17 .before .before .before .before .before in
-    let c27 = c22 .before .before .before .before .before in
+    let last = c .before .before .before in
+    let after = last .before .before in
+    let state = after .before .before .before in
+    let first = state .before .before .before .before in
+    let before = first .before .before in
+    let count = before .before .before .before in
+    let kind = count .before .before .before .before .before in
+    let start = kind .before .before .before .before .before in
     omega (
       arith,
-      c .before .before .before .put-text2 .ensures .1,
-      c8 .put-byte3 .ensures .1,
-      c12 .put-text .ensures .1,
-      c17 .put-byte2 .ensures .1,
-      c22 .put-byte .ensures .1,
-      c27 .pre .1,
-      c14 .word-before .ensures .0,
-      c5 .word-after .ensures .0,
+      last .put-text2 .ensures .1,
+      state .put-byte3 .ensures .1,
+      first .put-text .ensures .1,
+      count .put-byte2 .ensures .1,
+      kind .put-byte .ensures .1,
+      start .pre .1,
+      before .word-before .ensures .0,
+      after .word-after .ensures .0,
     )
 
 returns : tie.Need-returns
 returns c =
-    let c6 = c .before .before .before .before .before .before in
-    let c8 = c6 .before .before in
-    let c11 = c8 .before .before .before in
-    let c15 = c11 .before .before .before .before in
-    let c17 = c15 .before .before in
-    let c20 = c17 .before .before .before in
-    let c21 = c20 .before in
-    let c25 = c21 .before .before .before .before in
-    let c30 = c25 .before .before .before .before .before in (
+    let end = c .before .before .put in
+    let last = c .before .before .before .before .before .before in
+    let after = last .before .before in
+    let state = after .before .before .before in
+    let first = state .before .before .before .before in
+    let before = first .before .before in
+    let count = before .before .before .before in
+    let kind = count .before .before .before .before .before in
+    let start = kind .before .before .before .before .before in (
       omega (
         arith,
-        c .before .before .put .ensures .end,
-        c6 .put-text2 .ensures .1,
-        c11 .put-byte3 .ensures .1,
-        c15 .put-text .ensures .1,
-        c20 .put-byte2 .ensures .1,
-        c25 .put-byte .ensures .1,
-        c17 .word-before .ensures .0,
-        c8 .word-after .ensures .0,
+        end .ensures .end,
+        last .put-text2 .ensures .1,
+        state .put-byte3 .ensures .1,
+        first .put-text .ensures .1,
+        count .put-byte2 .ensures .1,
+        kind .put-byte .ensures .1,
+        before .word-before .ensures .0,
+        after .word-after .ensures .0,
       ),
       λ M o.
-          let first = wrote-as (ap (λ (u : List ℕ). hexOf (textOf u)) (c17 .word-before .ensures .1 M o)) (c15 .put-text .ensures .0) in
-          let last = wrote-as (ap (λ (u : List ℕ). hexOf (textOf u)) (c8 .word-after .ensures .1 M o)) (c6 .put-text2 .ensures .0) in
-          let count = wrote-byte (c21 .narrow .ensures (c30 .pre .0)) (c20 .put-byte2 .ensures .0) in
-          wrote-as (initial-line (c30 .args .states) (M .before) (M .after))
-          (wrote-then (wrote-then (wrote-then (wrote-then (wrote-then (c25 .put-byte .ensures .0) count) first) (c11 .put-byte3 .ensures .0)) last)
-          (c .before .before .put .ensures)),
+          let one = wrote-as (ap (λ (u : List ℕ). hexOf (textOf u)) (before .word-before .ensures .1 M o)) (first .put-text .ensures .0) in
+          let other = wrote-as (ap (λ (u : List ℕ). hexOf (textOf u)) (after .word-after .ensures .1 M o)) (last .put-text2 .ensures .0) in
+          let states = wrote-byte (count .before .narrow .ensures (start .pre .0)) (count .put-byte2 .ensures .0) in
+          wrote-as (initial-line (start .args .states) (M .before) (M .after))
+          (wrote-then (wrote-then (wrote-then (wrote-then (wrote-then (kind .put-byte .ensures .0) states) one) (state .put-byte3 .ensures .0)) other)
+          (end .ensures)),
     )
 
 pub put-initial-spec : {M : Type 1} → statement M

@@ -25,41 +25,42 @@ abbrev μ-loop : tie.MeasureT-loop
 loop-holds : tie.Need-loop-holds Inv-loop μ-loop
 unfolding symbolLines
 loop-holds c =
-    let c4 = c .before .before .before .before in
-    (omega arith, omega arith, refl, λ M o. wrote-none (c4 .args .room .now) (c4 .args .at))
+    let a = c .before .before .before .before .args in
+    (omega arith, omega arith, refl, λ M o. wrote-none (a .room .now) (a .at))
 
 loop-again : tie.Need-loop-again Inv-loop μ-loop
 loop-again c =
-    let c6 = c .before .before .before .before .before .before in
-    let c7 = c6 .before in
-    let c8 = c7 .before in
-    let c12 = c8 .before .before .before .before in
-    let c14 = c12 .before .before in
-    let c15 = c14 .before in
-    let c16 = c15 .before in
-    let c20 = c16 .before .before .before .before in
-    let k = c15 .loop .k in (
+    let last = c .before .before .put in
+    let second = c .before .before .before .before .before .before in
+    let byte = second .before .narrow in
+    let arity = second .before .before in
+    let first = arity .before .before .before .before in
+    let test = first .before .before in
+    let turn = test .before .loop in
+    let count = test .before .before in
+    let a = count .before .before .before .before .args in
+    let k = turn .k in (
       omega arith,
-      omega (arith, c .before .before .put .ensures .end, c6 .put-byte2 .ensures .1, c12 .put-byte .ensures .1, c15 .loop .inv .1),
+      omega (arith, last .ensures .end, second .put-byte2 .ensures .1, first .put-byte .ensures .1, turn .inv .1),
       search needs,
       λ M o.
-          let l : k < length (M .arities) = omega (arith, c16 .symbols .ensures .1 (c20 .args .frames .now) M o, c14 .loop-test .taken) in
-          let e : c7 .narrow .result ≡ getD (M .arities) k 0 = c7 .narrow .ensures (c8 .arity .ensures .0) ∙ c8 .arity .ensures .1
-          (c20 .args .numbers .now) M o l in
+          let l : k < length (M .arities) = omega (arith, count .symbols .ensures .1 (a .frames .now) M o, test .loop-test .taken) in
+          let e : byte .result ≡ getD (M .arities) k 0 = byte .ensures (arity .arity .ensures .0) ∙ arity .arity .ensures .1 (a .numbers .now) M o l in
           wrote-as (symbols-more (M .arities) k l)
-          (wrote-then (c15 .loop .inv .3 M o)
-          (wrote-as (symbol-line (c7 .narrow .result) (getD (M .arities) k 0) e)
-          (wrote-then (wrote-then (c12 .put-byte .ensures .0) (c6 .put-byte2 .ensures .0)) (c .before .before .put .ensures)))),
+          (wrote-then (turn .inv .3 M o)
+          (wrote-as (symbol-line (byte .result) (getD (M .arities) k 0) e)
+          (wrote-then (wrote-then (first .put-byte .ensures .0) (second .put-byte2 .ensures .0)) (last .ensures)))),
     )
 
 returns : tie.Need-returns Inv-loop μ-loop
 returns c =
-    let c6 = c .before .before .before .before .before .before in (
-      omega (arith, c .before .loop .inv .1, c .before .loop .inv .0, c .before .before .symbols .ensures .0),
+    let done = c .before .loop in
+    let count = c .before .before .symbols in
+    let a = c .before .before .before .before .before .before .args in (
+      omega (arith, done .inv .1, done .inv .0, count .ensures .0),
       λ M o.
-          let l : length (M .arities) ≤ c .before .loop .k = omega
-          (arith, c .before .before .symbols .ensures .1 (c6 .args .frames .now) M o, c .loop-test .left) in
-          wrote-as (ap symbolLines (take-all (c .before .loop .k) (M .arities) l)) (c .before .loop .inv .3 M o),
+          let l : length (M .arities) ≤ done .k = omega (arith, count .ensures .1 (a .frames .now) M o, c .loop-test .left) in
+          wrote-as (ap symbolLines (take-all (done .k) (M .arities) l)) (done .inv .3 M o),
     )
 
 pub put-symbols-spec : {M : Type 1} → statement M

@@ -1,0 +1,3 @@
+-- Laws of comparing two table texts:
+--   Comparing   first-refused, second-refused, texts-compared: by the judgements of the texts
+pub mod Comparing

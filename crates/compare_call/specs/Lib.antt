@@ -1,0 +1,2 @@
+-- A judgement's refusal, as the comparison hands it on.
+pub mod Refusal

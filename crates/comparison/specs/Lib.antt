@@ -1,0 +1,3 @@
+-- What comparing two opened tables answers.
+pub mod Answers
+pub mod Parts

@@ -1,0 +1,2 @@
+-- The number and the entries of each answer.
+pub mod Entries

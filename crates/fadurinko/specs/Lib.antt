@@ -1,3 +1,0 @@
--- The public calls' answers.
-pub mod Answers
-pub mod Parts

@@ -1,0 +1,2 @@
+-- How long the form's text is.
+pub mod Long

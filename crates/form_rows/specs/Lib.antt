@@ -1,0 +1,2 @@
+-- The rules' lines of the form.
+pub mod Rows

@@ -1,0 +1,2 @@
+-- What judging a table text answers.
+pub mod Judging
