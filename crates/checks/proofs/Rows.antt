@@ -13,7 +13,7 @@ use Rattle.end_laws.specs.Ends.{Ends, stuck, free}
 use Rattle.end_laws.specs.Companion.{freeRow}
 use Rattle.layout.specs.Leaves.{RowAt}
 use Rattle.summary.specs.Codes.{K}
-use Rattle.layout.proofs.Ahead.{Ahead, Next}
+use Rattle.word_leaves.proofs.Ahead.{Ahead, NextChild}
 
 -- On the way through the children cs: the word at spot p has m letters, and the children that are left tell what all tell.
 pub record ChildrenLeft (F xs : List ℕ) (p m n : ℕ) (cs : List Child) : Type 0 where
@@ -33,7 +33,7 @@ module _ (xs : List ℕ) where
     pub children-done : l .rest ≡ [] → true ≡ free (K xs) cs
     children-done e = sym (ap (free (K xs)) e) ∙ l .same
 
-    module _ {q s j : ℕ} (t : Next F q s j (l .rest)) (b : Bool) (test : b ≡ stuck (K xs q) (t .child .after)) where
+    module _ {q s j : ℕ} (t : NextChild F q s j (l .rest)) (b : Bool) (test : b ≡ stuck (K xs q) (t .child .after)) where
       -- The next child's test, and then the others.
       children-next : not b && free (K xs) (t .rest) ≡ free (K xs) cs
       children-next =

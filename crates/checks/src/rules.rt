@@ -14,15 +14,15 @@ ghost use Rattle.layout.specs.Leaves.{RowAt, Spot};
 ghost use Rattle.summary.specs.Codes.{decode, K, Firm};
 ghost use Rattle.checks.specs.Checks.{placeOf};
 use crate::Fault;
-use layout::laid_at;
-use layout::letter_at;
-use layout::letters_at;
 use layout::rules;
-use layout::spot_past;
-use layout::state_past;
+use rule_leaves::laid_at;
 use summary::kept;
 use summary::narrow;
 use summary::stuck_by;
+use word_leaves::letter_at;
+use word_leaves::letters_at;
+use word_leaves::spot_past;
+use word_leaves::state_past;
 
 // Whether the word at a spot, which has n letters, can be pushed to the left of a state with this summary.
 // Mostly the summary alone says no, so the word is read last.

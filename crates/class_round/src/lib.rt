@@ -10,7 +10,7 @@ ghost use Rattle.text.specs.Limits.{statesMost, rowsMost};
 ghost use Rattle.layout.specs.Layout.{Opened, Meant};
 ghost use Rattle.layout.specs.Leaves.{RulesOf};
 ghost use Rattle.class_round.specs.Round.{OneClass, RoundBegun, RoundSized, Leads, Picked, Low, NumbersRaised, Rounded};
-use layout::Rules;
+use rule_leaves::Rules;
 
 // Whether r stands for its class in the new round, and the round leaves q, whose rules are `mine`, with it.
 // The first round compares words alone, since all states are in one class; later ones compare children alone.
@@ -54,7 +54,7 @@ fn pick(first: bool, frames: &[u8], numbers: &[u64], rep: &[u8], next: &[u8], q:
     if r == q {
         return q;
     }
-    let mine = layout::rules_here(numbers, q);
+    let mine = rule_leaves::rules_of_full(numbers, q);
     while r < q {
         if leads(first, frames, numbers, rep, next, q, mine, r) {
             return r;

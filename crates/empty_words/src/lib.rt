@@ -7,22 +7,22 @@ ghost use Rattle.words.specs.Told.{Told};
 ghost use Rattle.machine.specs.Machine.{Rule};
 ghost use Rattle.text.specs.Limits.{statesMost};
 ghost use Rattle.layout.specs.Layout.{numbersSize, MeantBy};
-ghost use Rattle.layout.specs.Leaves.{Holds};
+ghost use Rattle.layout.specs.Leaves.{Encodes};
 ghost use Rattle.summary.specs.Codes.{K};
 ghost use Rattle.summary.specs.Grown.{Grown};
 ghost use Rattle.empty_words.specs.Blank.{Blanks, EmptyTold, AllBlank, BlankRule, BlankOf, Marks, ListedBetween, AllListed};
 use layout::byte;
-use layout::child_in;
-use layout::kept_at;
-use layout::kids_in;
-use layout::letters_in;
-use layout::rules_in;
 use layout::wide;
+use rule_leaves::child_in;
+use rule_leaves::kept_of_full;
+use rule_leaves::kids_in;
+use rule_leaves::letters_in;
+use rule_leaves::rules_of_full;
 
 // Whether something is kept for each child of the rule that x tells.
 fn all_blank(x: u64, values: &[u16]) -> bool
     requires { ⌜ length (now values) ≡ statesMost ⌝ }
-    ensures { λ t. ⌜ ((i : ℕ) (r : Rule) → Holds x i r → Told (AllBlank (now (values .entry)) (r .rest)) t) ⌝ }
+    ensures { λ t. ⌜ ((i : ℕ) (r : Rule) → Encodes x i r → Told (AllBlank (now (values .entry)) (r .rest)) t) ⌝ }
 {
     let kids = kids_in(x);
     let mut j: usize = 0;
@@ -39,7 +39,7 @@ fn all_blank(x: u64, values: &[u16]) -> bool
 // Whether the rule that x tells writes no letter itself, and something is kept for each of its children.
 fn blank_rule(x: u64, values: &[u16]) -> bool
     requires { ⌜ length (now values) ≡ statesMost ⌝ }
-    ensures { λ t. ⌜ ((i : ℕ) (r : Rule) → Holds x i r → Told (BlankRule (now (values .entry)) r) t) ⌝ }
+    ensures { λ t. ⌜ ((i : ℕ) (r : Rule) → Encodes x i r → Told (BlankRule (now (values .entry)) r) t) ⌝ }
 {
     if 0 < letters_in(x) {
         return false;
@@ -52,11 +52,11 @@ fn has_blank(numbers: &[u64], q: usize, values: &[u16]) -> bool
     requires { ⌜ (length (now numbers) ≡ numbersSize) × (length (now values) ≡ statesMost) ⌝ }
     ensures { λ t. ⌜ MeantBy (now (numbers .entry)) (λ M. Told (BlankOf M (now (values .entry)) q) t) ⌝ }
 {
-    let rules = rules_in(numbers, q);
+    let rules = rules_of_full(numbers, q);
     let to = rules.to;
     let mut i = rules.from;
     while i < to {
-        if blank_rule(kept_at(numbers, i), values) {
+        if blank_rule(kept_of_full(numbers, i), values) {
             return true;
         }
         i += 1;

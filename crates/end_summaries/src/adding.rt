@@ -12,8 +12,8 @@ ghost use Rattle.summary.specs.Grown.{Grown};
 ghost use Rattle.end_summaries.specs.Steps.{Adds, OneState, RulesOfListed};
 use layout::STATES;
 use layout::byte;
-use layout::rules_in;
 use layout::wide;
+use rule_leaves::rules_of_full;
 use rule_summary::rule_value;
 use summary::joined;
 use summary::rank_of;
@@ -51,7 +51,7 @@ fn add_state(frames: &[u8], numbers: &[u64], q: usize, side: u8, values: &mut [u
     if STATES <= q {
         return 0;
     }
-    let rules = rules_in(numbers, q);
+    let rules = rules_of_full(numbers, q);
     let from = rules.from;
     let mut i = rules.to;
     let mut k: usize = 0;

@@ -5,12 +5,12 @@ ghost use Rattle.text.specs.Limits.{statesMost};
 ghost use Rattle.form_length.specs.Long.{StatesLong, FormLong};
 use form_numbers::most;
 use layout::byte;
-use layout::lines_length;
-use layout::rules_of;
 use layout::symbols;
 use layout::wide;
 use layout::word_after;
 use layout::word_before;
+use rule_leaves::rules_of;
+use word_leaves::lines_length;
 
 // The length of the lines of the first n states of `order`: as long as they are in the table's text.
 fn states_length(numbers: &[u64], order: &[u8], n: usize) -> usize

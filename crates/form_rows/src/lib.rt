@@ -8,10 +8,10 @@ use digits::put;
 use digits::put_byte;
 use digits::put_hex;
 use layout::byte;
-use layout::rule_text;
-use layout::rules_of;
-use layout::symbol_of;
 use layout::wide;
+use rule_leaves::rules_of;
+use rule_leaves::symbol_of;
+use word_leaves::rule_text;
 
 // Writes the numbers of the children's states over the states, where the digits of a rule's bytes stand at `at`.
 fn put_numbers(text: &[u8], names: &[u8], room: &mut [u8], at: usize)

@@ -5,7 +5,6 @@ use Prim.Native.Nat.{ℕ, _+_, _*_, _<_}
 use native.Mathlib.Omega.{arith}
 use lib.ListN.{length, length-append}
 use Rattle.machine.specs.Machine.{Row, Table}
-use Rattle.text.specs.Lines.{lineOf}
 use Rattle.text.proofs.Lines.{length-line}
 use Rattle.text.specs.Writing.{rowFrame, initialFrame, symbolLines, rowLines, writeTable, Limited}
 use Rattle.layout.specs.Layout.{symbolFrames, rowFrames, headFrames, framesOf}

@@ -11,7 +11,7 @@ use Rattle.text.specs.Writing.{textOf, initialFrame}
 use Rattle.layout.specs.Layout.{symbolFrames, rowFrames, headFrames, framesOf, beforeAt, afterAt, Opened}
 use Rattle.layout.specs.Leaves.{wordAt}
 use Rattle.layout.proofs.Fit.{length-symbols}
-use Rattle.layout.proofs.Stretches.{byte-here, byte-behind, further, word-here}
+use Rattle.layout.proofs.Stretches.{byte-behind, further, word-here}
 
 -- A symbol's arity is the second byte of its frame.
 pub symbol-arity : (xs ys : List ℕ) (f : ℕ) → f < length xs → getD (symbolFrames xs ++ ys) (2 * f + 1) 0 ≡ getD xs f 0
@@ -29,17 +29,13 @@ pub length-head : (M : Table) → length (headFrames M) ≡ 2 * length (M .ariti
 unfolding headFrames initialFrame
 length-head M = simp length-append (omega (arith, length-symbols (M .arities)))
 
--- The first rule's frame stands behind the initial rule's second word.
-pub rows-behind-after : (M : Table) → length (headFrames M) ≡ afterAt M + 1 + length (M .after)
-rows-behind-after M = omega (arith, length-head M)
-
 module _ {F I : List ℕ} {M : Table} (o : Opened F I M) where
   -- What stands behind the initial rule's frame.
   abbrev tail : List ℕ
   tail = rowFrames (M .rows) ++ 4 ∷ o .behind
 
   -- The bytes are the frames before the first rule, and then the rules' frames, the end, and what is left.
-  pub head-first : F ≡ headFrames M ++ tail
+  head-first : F ≡ headFrames M ++ tail
   unfolding framesOf
   head-first =
       o .frames ∙ append-assoc (headFrames M ++ rowFrames (M .rows)) (4 ∷ []) (o .behind) ∙ append-assoc (headFrames M) (rowFrames (M .rows)) (4 ∷ o .behind)
@@ -64,14 +60,11 @@ module _ {F I : List ℕ} {M : Table} (o : Opened F I M) where
   unfolding initialFrame
   states-there = byte-behind F (2 * length (M .arities)) 2 (M .states ∷ (textOf (M .before) ++ M .start ∷ textOf (M .after)) ++ tail) initial-there
 
-  -- The number of states is read there.
-  pub states-byte : getD F (2 * length (M .arities) + 1) 0 ≡ M .states
-  states-byte = byte-here F (2 * length (M .arities) + 1) (M .states) ((textOf (M .before) ++ M .start ∷ textOf (M .after)) ++ tail) states-there
-
   -- The initial rule's first word, its state and its second word stand behind the number of states.
   before-there : drop (beforeAt M) F ≡ textOf (M .before) ++ (M .start ∷ textOf (M .after) ++ tail)
   before-there =
-      ap (λ (k : ℕ). drop k F) one-more ∙ byte-behind F (2 * length (M .arities) + 1) (M .states) ((textOf (M .before) ++ M .start ∷ textOf (M .after)) ++ tail) states-there
+      ap (λ (k : ℕ). drop k F) one-more
+      ∙ byte-behind F (2 * length (M .arities) + 1) (M .states) ((textOf (M .before) ++ M .start ∷ textOf (M .after)) ++ tail) states-there
       ∙ append-assoc (textOf (M .before)) (M .start ∷ textOf (M .after)) tail
     where
       one-more : 2 * length (M .arities) + 2 ≡ 2 * length (M .arities) + 1 + 1
@@ -88,10 +81,6 @@ module _ {F I : List ℕ} {M : Table} (o : Opened F I M) where
     where
       word-more : 2 * length (M .arities) + 3 + length (M .before) ≡ 2 * length (M .arities) + 2 + suc (length (M .before))
       word-more = omega arith
-
-  -- The initial state is read there.
-  pub start-byte : getD F (2 * length (M .arities) + 3 + length (M .before)) 0 ≡ M .start
-  start-byte = byte-here F (2 * length (M .arities) + 3 + length (M .before)) (M .start) (textOf (M .after) ++ tail) start-there
 
   -- The initial rule's second word stands behind its state.
   after-there : drop (afterAt M) F ≡ textOf (M .after) ++ tail

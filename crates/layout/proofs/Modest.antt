@@ -3,13 +3,13 @@ use mathlib.Core.List.{List, [], _∷_}
 use Prim.Native.Nat.{ℕ, zero, suc, _<_, _≤_}
 use native.Mathlib.Nat.{lt-of-lt-of-le}
 use native.Mathlib.Omega.{arith}
-use lib.ListN.{length, getD}
-use Rattle.machine.specs.Machine.{Child, Rule, Row, Table, Each, Every, RowFits}
+use lib.ListN.{getD}
+use Rattle.machine.specs.Machine.{Child, Row, Table, Each, Every, RowFits}
 use Rattle.text.specs.Writing.{AtMost, Short, ShortRow, Limited}
-use Rattle.layout.specs.Leaves.{Modest}
+use Rattle.layout.specs.Leaves.{ModestKids, Modest}
 
 -- What follows of a row from two facts follows of every row from the two facts of every row.
-pub every-both : {P Q R : Row → Type 0} → ((r : Row) → P r → Q r → R r) → (rows : List Row) → Every P rows → Every Q rows → Every R rows
+every-both : {P Q R : Row → Type 0} → ((r : Row) → P r → Q r → R r) → (rows : List Row) → Every P rows → Every Q rows → Every R rows
 every-both h [] p q = tt
 every-both h (r ∷ rows) p q = (h r (p .0) (q .0), every-both h rows (p .1) (q .1))
 
@@ -21,7 +21,7 @@ at-most m (x ∷ xs) (suc i) h = at-most m xs i (h .1)
 
 -- Children with short words and states of the table.
 modest-children : (n : ℕ) (cs : List Child) → n ≤ 64 → Each (λ c ds. Short (c .after)) cs → Each (λ c ds. c .state < n) cs
-    → Each (λ c ds. (length (c .after) ≤ 32) × (c .state < 64)) cs
+    → ModestKids cs
 modest-children n [] h s t = tt
 modest-children n (c ∷ cs) h s t = ((s .0 .length, lt-of-lt-of-le (t .0) h), modest-children n cs h (s .1) (t .1))
 

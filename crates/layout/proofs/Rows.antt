@@ -1,15 +1,15 @@
--- The rules' frames: where the frame of a row stands, and what is read in it.
+-- The rules' frames: where the frame of a row stands, and where its rule does.
 use mathlib.Core.Path.{_≡_, refl, sym, ap, _∙_}
 use mathlib.Core.List.{List, [], _∷_, _++_, append-assoc}
 use mathlib.Core.Option.{some}
 use Prim.Native.Nat.{ℕ, zero, suc, _+_, _≤_}
 use native.Mathlib.Omega.{arith}
-use lib.ListN.{length, getD, take, drop, getElem?}
+use lib.ListN.{length, take, drop, getElem?}
 use Rattle.machine.specs.Machine.{Row, Table}
 use Rattle.text.specs.Writing.{rowFrame}
 use Rattle.layout.specs.Layout.{rowFrames, headFrames, ruleText, Opened}
 use Rattle.layout.specs.Leaves.{RuleAt}
-use Rattle.layout.proofs.Stretches.{byte-here, byte-behind, further}
+use Rattle.layout.proofs.Stretches.{byte-behind, further}
 use Rattle.layout.proofs.Heads.{rows-there}
 
 -- A row's frame: its kind, its state, its symbol, its rule.
@@ -36,18 +36,6 @@ module _ (F : List ℕ) (p : ℕ) (r : Row) (b : List ℕ) (e : drop p F ≡ row
       one-more : p + 2 ≡ p + 1 + 1
       one-more = omega arith
 
-  -- A row's frame begins with its kind.
-  pub row-kind : getD F p 0 ≡ 3
-  row-kind = byte-here F p 3 (r .state ∷ r .symbol ∷ ruleText (r .rule) ++ b) row-bytes
-
-  -- A row's state is the second byte of its frame.
-  pub row-state : getD F (p + 1) 0 ≡ r .state
-  row-state = byte-here F (p + 1) (r .state) (r .symbol ∷ ruleText (r .rule) ++ b) state-bytes
-
-  -- A row's symbol is the third byte of its frame.
-  pub row-symbol : getD F (p + 2) 0 ≡ r .symbol
-  row-symbol = byte-here F (p + 2) (r .symbol) (ruleText (r .rule) ++ b) symbol-bytes
-
   -- A row's rule stands behind its kind, its state and its symbol.
   pub row-rule : RuleAt F (p + 3) (r .rule)
   row-rule = record { behind = b; bytes = ap (λ (k : ℕ). drop k F) one-more ∙ byte-behind F (p + 2) (r .symbol) (ruleText (r .rule) ++ b) symbol-bytes }
@@ -55,17 +43,15 @@ module _ (F : List ℕ) (p : ℕ) (r : Row) (b : List ℕ) (e : drop p F ≡ row
       one-more : p + 3 ≡ p + 2 + 1
       one-more = omega arith
 
-  -- What follows a row's frame stands behind it.
-  pub row-behind : drop (p + length (rowFrame r)) F ≡ b
-  row-behind = further F p (rowFrame r) b e
-
 -- The frame of the row at index i stands behind those of the rows before it, and before those of the rows after it.
-pub row-split : (rs : List Row) (i : ℕ) (r : Row) → getElem? rs i ≡ some r → rowFrames rs ≡ rowFrames (take i rs) ++ (rowFrame r ++ rowFrames (drop (suc i) rs))
+pub row-split : (rs : List Row) (i : ℕ) (r : Row) → getElem? rs i ≡ some r
+    → rowFrames rs ≡ rowFrames (take i rs) ++ (rowFrame r ++ rowFrames (drop (suc i) rs))
 unfolding rowFrames
 row-split [] i r e = let z : _≡_ {A = ℕ} 0 1 = cc in absurd (omega arith)
 row-split (s ∷ rs) zero r e = let d : s ≡ r = cc in ap (λ (x : Row). rowFrame x ++ rowFrames rs) d
 row-split (s ∷ rs) (suc i) r e =
-    ap (λ (l : List ℕ). rowFrame s ++ l) (row-split rs i r e) ∙ sym (append-assoc (rowFrame s) (rowFrames (take i rs)) (rowFrame r ++ rowFrames (drop (suc i) rs)))
+    ap (λ (l : List ℕ). rowFrame s ++ l) (row-split rs i r e)
+    ∙ sym (append-assoc (rowFrame s) (rowFrames (take i rs)) (rowFrame r ++ rowFrames (drop (suc i) rs)))
 
 -- Where the frame of the row at index i stands in an opened table's bytes.
 pub row-there : {F I : List ℕ} {M : Table} (o : Opened F I M) (i : ℕ) (r : Row) → getElem? (M .rows) i ≡ some r

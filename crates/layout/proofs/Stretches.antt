@@ -1,16 +1,14 @@
--- Walking a rule's bytes: a word, then for each child its state and a word.
+-- Reading bytes where they stand: a byte, a word, a child's state.
 use mathlib.Core.Path.{_≡_, sym, ap, _∙_}
 use mathlib.Core.List.{List, _∷_, _++_, append-assoc}
-use Prim.Native.Nat.{ℕ, _+_, _<_}
+use Prim.Native.Nat.{ℕ, _+_}
 use native.Mathlib.Nat.{add-zero}
-use native.Mathlib.Omega.{arith}
-use lib.ListN.{length, getD, take, drop, length-drop}
+use lib.ListN.{length, getD, take, drop}
 use lib.Seq.{take-append-seam, drop-append-seam, getD-drop, drop-drop}
 use Rattle.words.specs.Word.{Word}
-use Rattle.machine.specs.Machine.{Child, Rule}
+use Rattle.machine.specs.Machine.{Child}
 use Rattle.text.specs.Writing.{textOf, childrenText}
-use Rattle.layout.specs.Layout.{ruleText}
-use Rattle.layout.specs.Leaves.{wordAt, behindAt, RuleAt}
+use Rattle.layout.specs.Leaves.{wordAt, behindAt}
 
 -- A byte stands at p if it comes first from p on.
 pub byte-here : (F : List ℕ) (p x : ℕ) (more : List ℕ) → drop p F ≡ x ∷ more → getD F p 0 ≡ x
@@ -28,30 +26,14 @@ further F p us more e = sym (drop-drop (length us) p F) ∙ ap (λ (l : List ℕ
 -- A word whose bytes stand at p is read there.
 pub word-here : (F : List ℕ) (p : ℕ) (u : Word) (more : List ℕ) → drop p F ≡ textOf u ++ more → wordAt F p ≡ u
 word-here F p u more e =
-    ap (λ (k : ℕ). take k (drop (p + 1) F)) (byte-here F p (length u) (u ++ more) e) ∙ ap (λ (l : List ℕ). take (length u) l) (byte-behind F p (length u) (u ++ more) e)
+    ap (λ (k : ℕ). take k (drop (p + 1) F)) (byte-here F p (length u) (u ++ more) e)
+    ∙ ap (λ (l : List ℕ). take (length u) l) (byte-behind F p (length u) (u ++ more) e)
     ∙ take-append-seam u more
 
 -- What follows a word stands behind it.
 pub word-behind : (F : List ℕ) (p : ℕ) (u : Word) (more : List ℕ) → drop p F ≡ textOf u ++ more → drop (behindAt F p) F ≡ more
 word-behind F p u more e =
     ap (λ (k : ℕ). drop (p + 1 + k) F) (byte-here F p (length u) (u ++ more) e) ∙ further F (p + 1) u more (byte-behind F p (length u) (u ++ more) e)
-
--- A rule's first word is read where its bytes stand.
-pub first-word : (F : List ℕ) (p : ℕ) (r : Rule) → RuleAt F p r → wordAt F p ≡ r .first
-unfolding ruleText
-first-word F p r h =
-    word-here F p (r .first) (childrenText (r .rest) ++ h .behind) (h .bytes ∙ append-assoc (textOf (r .first)) (childrenText (r .rest)) (h .behind))
-
--- A rule's children stand behind its first word.
-pub first-behind : (F : List ℕ) (p : ℕ) (r : Rule) (h : RuleAt F p r) → drop (behindAt F p) F ≡ childrenText (r .rest) ++ h .behind
-unfolding ruleText
-first-behind F p r h =
-    word-behind F p (r .first) (childrenText (r .rest) ++ h .behind) (h .bytes ∙ append-assoc (textOf (r .first)) (childrenText (r .rest)) (h .behind))
-
--- A rule's bytes stand inside the lent bytes.
-pub rule-inside : (F : List ℕ) (p : ℕ) (r : Rule) → RuleAt F p r → p < length F
-unfolding ruleText
-rule-inside F p r h = omega (arith, simp length-drop at (ap length (h .bytes)))
 
 module _ (F : List ℕ) (p : ℕ) (c : Child) (cs : List Child) (b : List ℕ) (e : drop p F ≡ childrenText (c ∷ cs) ++ b) where
   -- A child's bytes: its state, its word, and then its younger siblings.
@@ -62,11 +44,3 @@ module _ (F : List ℕ) (p : ℕ) (c : Child) (cs : List Child) (b : List ℕ) (
   -- A child's state is the byte where it stands.
   pub child-state : getD F p 0 ≡ c .state
   child-state = byte-here F p (c .state) (textOf (c .after) ++ (childrenText cs ++ b)) child-bytes
-
-  -- The word after a child is read behind its state.
-  pub child-word : wordAt F (p + 1) ≡ c .after
-  child-word = word-here F (p + 1) (c .after) (childrenText cs ++ b) (byte-behind F p (c .state) (textOf (c .after) ++ (childrenText cs ++ b)) child-bytes)
-
-  -- The next child stands behind that word.
-  pub child-behind : drop (behindAt F (p + 1)) F ≡ childrenText cs ++ b
-  child-behind = word-behind F (p + 1) (c .after) (childrenText cs ++ b) (byte-behind F p (c .state) (textOf (c .after) ++ (childrenText cs ++ b)) child-bytes)

@@ -1,8 +1,9 @@
--- The opened table: the decoded frames one after the other, and a list of numbers: the head, the rules by their numbers, what is kept for each state and symbol. Definitions only.
+-- The opened table: the decoded frames one after the other, and a list of numbers: the head, the rules by their numbers, and what
+-- is kept for each state and symbol. Definitions only.
 use mathlib.Core.Path.{_≡_}
 use mathlib.Core.Bool.{true, false, _&&_}
 use mathlib.Core.List.{List, [], _∷_, _++_}
-use Prim.Native.Nat.{ℕ, zero, suc, _+_, _*_, _^_, _<_, _≤_}
+use Prim.Native.Nat.{ℕ, suc, _+_, _*_, _^_, _<_, _≤_}
 use lib.Dec.{eqb, ltb}
 use lib.ListN.{length, getD}
 use Rattle.machine.specs.Machine.{Child, Rule, Row, Table}

@@ -1,9 +1,9 @@
--- What the leaves answer: the functions through which every layer above reads an opened table. Definitions only.
+-- What the leaves answer, of the rules and of their words: every layer above reads an opened table through them. Definitions only.
 use mathlib.Core.Path.{_≡_}
 use mathlib.Core.Logic.{_↔_}
 use mathlib.Core.List.{List, [], _∷_, _++_}
-use mathlib.Core.Option.{Option, none, some}
-use Prim.Native.Nat.{ℕ, zero, suc, _+_, _*_, _<_, _≤_}
+use mathlib.Core.Option.{none, some}
+use Prim.Native.Nat.{ℕ, zero, suc, _+_, _<_, _≤_}
 use lib.ListN.{length, getD, getElem?, take, drop}
 use lib.Seq.{slice}
 use Rattle.words.specs.Word.{Word}
@@ -11,10 +11,7 @@ use Rattle.machine.specs.Machine.{Child, Rule, Row, Table, Each, find}
 use Rattle.machine.specs.Form.{rowsOf}
 use Rattle.text.specs.Limits.{statesMost, lettersMost, arityMost, rowsMost}
 use Rattle.text.specs.Writing.{textOf, childrenText}
-use Rattle.layout.specs.Layout.{framesSize, Opened, headFrames, ruleText, ruleLetters, entryOf}
-use Rattle.layout.specs.declared.whole.Laid.{Laid}
-use Rattle.layout.specs.declared.RuleOf.{RuleOf}
-use Rattle.layout.specs.declared.RuleOf.the-variants as ruled
+use Rattle.layout.specs.Layout.{framesSize, Opened, ruleText, entryOf}
 
 -- The letters of the word whose length byte stands at a, clamped to the bytes that are there.
 abbrev pub wordAt : List ℕ → ℕ → Word
@@ -46,19 +43,18 @@ pub record RuleFor (M : Table) (q f i : ℕ) (r : Rule) : Type 0 where
   pub row : RowAt M i (rowOf q f r)
   pub found : find (M .rows) q f ≡ some r
 
--- What looking up the rule of q and f answers: its number, or that there is none.
-abbrev pub Sought : Table → ℕ → ℕ → RuleOf → Type 0
-Sought M q f (ruled.Found i) = (r : Rule) × RuleFor M q f i r
-Sought M q f ruled.Missing = find (M .rows) q f ≡ none
+-- Children within the limits: the words after them have at most 32 letters, their states are below 64.
+abbrev pub ModestKids : List Child → Type 0
+ModestKids cs = Each (λ c ds. (length (c .after) ≤ lettersMost) × (c .state < statesMost)) cs
 
 -- A rule within the limits: its words have at most 32 letters, its states are below 64, it has at most 4 children.
 pub record Modest (r : Rule) : Type 0 where
   pub first : length (r .first) ≤ lettersMost
-  pub rest : Each (λ c cs. (length (c .after) ≤ lettersMost) × (c .state < statesMost)) (r .rest)
+  pub rest : ModestKids (r .rest)
   pub kids : length (r .rest) ≤ arityMost
 
 -- The number x, which is never 0, tells that rule number i is r: its letters, its children's states and how many they are.
-pub record Holds (x i : ℕ) (r : Rule) : Type 0 where
+pub record Encodes (x i : ℕ) (r : Rule) : Type 0 where
   pub is : x ≡ entryOf i r
   pub low : i < rowsMost
   pub modest : Modest r
@@ -68,7 +64,7 @@ pub record Tells (M : Table) (q f x : ℕ) : Type 0 where
   pub number : ℕ
   pub rule : Rule
   pub ruled : RuleFor M q f number rule
-  pub holds : Holds x number rule
+  pub holds : Encodes x number rule
 
 -- The number x is what the opened table keeps for state q and symbol f: 0 if there is no rule, else what tells the rule.
 pub record Kept (M : Table) (q f x : ℕ) : Type 0 where
@@ -100,8 +96,3 @@ pub record Put (F : List ℕ) (p at : ℕ) (R R′ : List ℕ) (r : ℕ) : Type 
   pub long : length R′ ≡ length R
   pub written : (u : Word) (cs : List Child) → length F ≡ framesSize → Spot F u cs p → at + length u ≤ length R
       → (r ≡ at + length u) × (take r R′ ≡ take at R ++ u)
-
--- Where a rule's first word stands in the bytes F, and how many children the rule has.
-pub record LaidOut (F : List ℕ) (r : Rule) (l : Laid) : Type 0 where
-  pub spot : Spot F (r .first) (r .rest) (l .spot)
-  pub kids : l .kids ≡ length (r .rest)

@@ -1,12 +1,10 @@
-// The opened table's leaves: everything above reads an opened table through these functions.
+// The opened table: how many bytes and numbers are lent, total reads of them, and the leaves that read the head.
+// Everything above reads an opened table through leaves: these, those of rule_leaves and those of word_leaves.
 // None asks anything of the lent bytes and numbers: reads are clamped, and each contract speaks of every table that they mean.
 ghost use mathlib.Core.Path.{_≡_};
 ghost use Prim.Native.Nat.{_+_, _<_, _≤_};
 ghost use lib.ListN.{length, getD};
-ghost use Rattle.layout.specs.Layout.{MeantBy};
-ghost use Rattle.layout.specs.Leaves.{wordAt, behindAt, Sought};
-pub use copy::put_word;
-pub use copy::spot_behind;
+ghost use Rattle.layout.specs.Leaves.{wordAt, behindAt};
 pub use counts::arity;
 pub use counts::rules;
 pub use counts::start;
@@ -14,48 +12,8 @@ pub use counts::states;
 pub use counts::symbols;
 pub use counts::word_after;
 pub use counts::word_before;
-pub use full::kept_full;
-pub use full::rules_here;
-pub use full::symbol_full;
-pub use kept::child_in;
-pub use kept::first_in;
-pub use kept::kept_for;
-pub use kept::kept_here;
-pub use kept::kids_in;
-pub use kept::later_in;
-pub use kept::letters_in;
-pub use kept::number_in;
-pub use kids::kids_alike;
-pub use rule::Rules;
-pub use rule::kept_of;
-pub use rule::rules_of;
-pub use rule::spot_of;
-pub use rule::state_of;
-pub use rule::symbol_of;
-pub use spot::next_spot;
-pub use spot::state_behind;
-pub use spot::word_at;
-pub use stride::letter_at;
-pub use stride::letters_at;
-pub use stride::spot_past;
-pub use stride::state_past;
-pub use texts::lines_length;
-pub use texts::rule_text;
-pub use whole::Laid;
-pub use whole::kept_at;
-pub use whole::laid_at;
-pub use whole::rules_in;
 
-mod copy;
 mod counts;
-mod full;
-mod kept;
-mod kids;
-mod rule;
-mod spot;
-mod stride;
-mod texts;
-mod whole;
 
 // How many bytes and how many numbers a caller lends for an opened table. The bytes behind the
 // longest table's frames let a word be copied in pieces of 32.
@@ -80,12 +38,6 @@ pub const LETTERS: usize = 32;
 pub const TREE: usize = 32768;
 
 pub const LEVELS: usize = 64;
-
-// The rule of a state and a symbol: its number, or that there is none.
-pub enum RuleOf {
-    Found(usize),
-    Missing,
-}
 
 pub fn wide(x: u8) -> usize
     ensures { λ r. ⌜ (r ≡ x) × (r < 256) ⌝ }
@@ -130,15 +82,4 @@ pub fn behind(frames: &[u8], at: usize) -> usize
     ensures { λ r. ⌜ (r ≡ behindAt (now (frames .entry)) at) × (r ≤ at + 256) ⌝ }
 {
     at + 1 + wide(byte(frames, at))
-}
-
-// The rule of state q and symbol f: its number, or that there is none.
-pub fn rule_number(numbers: &[u64], q: usize, f: usize) -> RuleOf
-    ensures { λ r. ⌜ MeantBy (now (numbers .entry)) (λ M. Sought M q f r) ⌝ }
-{
-    let x = kept_for(numbers, q, f);
-    if x == 0 {
-        return RuleOf::Missing;
-    }
-    RuleOf::Found(number_in(x))
 }

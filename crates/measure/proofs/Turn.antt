@@ -11,7 +11,7 @@ use Rattle.trees.specs.Shape.{treeMost}
 use Rattle.trees.proofs.Preorder.{preorder-some}
 use Rattle.trees.proofs.Whole.{read-sound}
 use Rattle.layout.specs.Layout.{ruleLetters, Opened}
-use Rattle.layout.specs.Leaves.{Holds, Tells, Kept, stateNo}
+use Rattle.layout.specs.Leaves.{Encodes, Tells, Kept, stateNo}
 use Rattle.walk.specs.Walked.{Wordless}
 use Rattle.walk.specs.Plan.{Names, Counted}
 use Rattle.waiting.specs.Waiting.{under, waits, ToldBy, TurnMade, Usual}

@@ -19,8 +19,8 @@ pub enum TreeMeasure {
 fn plan_of(numbers: &[u64], x: u64) -> u32
     ensures { λ r. ⌜ ((F : List ℕ) (M : Table) (q f : ℕ) → Opened F (now (numbers .entry)) M → (t : Tells M q f x) → Names F r (t .rule)) ⌝ }
 {
-    let spot = layout::spot_of(numbers, layout::number_in(x));
-    (spot + layout::kids_in(x) * walk::PLAN_UNIT) as u32
+    let spot = rule_leaves::spot_of(numbers, rule_leaves::number_in(x));
+    (spot + rule_leaves::kids_in(x) * walk::PLAN_UNIT) as u32
 }
 
 // Whether the loop can go through tree bytes, with a place of the plan for each.
@@ -63,14 +63,14 @@ pub fn measure(
         if !waiting::usual(f, next, top) {
             return TreeMeasure::Other;
         }
-        let x = layout::kept_here(numbers, next % layout::STATES, f);
+        let x = rule_leaves::kept_for_full(numbers, next % layout::STATES, f);
         if x == 0 {
             return TreeMeasure::Other;
         }
         plan[at] = plan_of(numbers, x);
-        sum = sum + layout::letters_in(x);
+        sum = sum + rule_leaves::letters_in(x);
         next = waiting::turn(&mut stack, top, next, x);
-        top = top + layout::kids_in(x) - 1;
+        top = top + rule_leaves::kids_in(x) - 1;
         at += 1;
     }
     if 0 < top {

@@ -39,7 +39,7 @@ pub fn answer(
         → Queued (lineAnswer t (length (now (room .entry))) cs) (now (out .entry)) used (now (out .exit)) r) ⌝ }
 {
     let said = to_line(line, opening, frames, numbers, tree, plan, room, out, used);
-    tally::raise(counts, said.counted);
+    line_counts::raise(counts, said.counted);
     said.used
 }
 

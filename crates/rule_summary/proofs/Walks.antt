@@ -8,7 +8,7 @@ use Rattle.words.specs.Word.{Word}
 use Rattle.machine.specs.Machine.{Child, Rule}
 use Rattle.end_laws.specs.Ends.{Side, left, right, end, Ends, unknown, alone, lives, before, beside, along, value, through}
 use Rattle.end_laws.proofs.Order.{blank-before, before-blank, gather, gathered}
-use Rattle.layout.proofs.Ahead.{Ahead, Next}
+use Rattle.word_leaves.proofs.Ahead.{Ahead, NextChild}
 use Rattle.summary.specs.Codes.{decode, K}
 use Rattle.summary.proofs.Tests.{blank-alone}
 
@@ -47,7 +47,7 @@ module _ (side : Side) (xs : List ℕ) where
 
   module _ {F : List ℕ} {p m n : ℕ} {x : Ends} {r : Rule} (l : Gathering side F xs p m n x r) where
     -- One child further on, which has state q.
-    pub gathering-more : {q s k j : ℕ} (t : Next F q s j (l .rest)) → k ≡ length (t .child .after) → (y z : Ends) → y ≡ beside side x (K xs q)
+    pub gathering-more : {q s k j : ℕ} (t : NextChild F q s j (l .rest)) → k ≡ length (t .child .after) → (y z : Ends) → y ≡ beside side x (K xs q)
         → z ≡ beside side y (alone (end side (t .child .after))) → Gathering side F xs s k j z r
     gathering-more {q} {s} {k} t long y z ey ez =
         let child = t .child in

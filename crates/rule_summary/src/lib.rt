@@ -11,13 +11,13 @@ ghost use Rattle.end_laws.specs.Ends.{end, alone, beside, value};
 ghost use Rattle.layout.specs.Layout.{numbersSize, Opened};
 ghost use Rattle.layout.specs.Leaves.{RowAt, Spot};
 ghost use Rattle.summary.specs.Codes.{sideOf, decode, K};
-use layout::laid_at;
-use layout::letter_at;
-use layout::letters_at;
-use layout::spot_past;
-use layout::state_past;
+use rule_leaves::laid_at;
 use summary::lettered;
 use summary::next_to;
+use word_leaves::letter_at;
+use word_leaves::letters_at;
+use word_leaves::spot_past;
+use word_leaves::state_past;
 
 // The summary of the word at a spot, which has n letters and at least one, seen from a side: its first or its last letter.
 fn end_at(frames: &[u8], p: usize, n: usize, side: u8) -> u16

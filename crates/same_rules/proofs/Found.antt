@@ -13,9 +13,9 @@ use Rattle.machine.specs.Machine.{Child, Rule, Row, Table, Rising, find}
 use Rattle.machine.specs.Twins.{Rests, Rules}
 use Rattle.machine.proofs.Find.{find-row}
 use Rattle.layout.specs.Layout.{Opened}
-use Rattle.layout.specs.Leaves.{RowAt, rowOf, Holds, Tells, Kept}
+use Rattle.layout.specs.Leaves.{RowAt, rowOf, Encodes, Tells, Kept}
 use Rattle.layout.specs.Kids.{Kids}
-use Rattle.layout.proofs.Numbered.{row-fits}
+use Rattle.rule_leaves.proofs.Numbered.{row-fits}
 use Rattle.same_words.specs.Words.{Any, RowIn}
 use Rattle.same_words.proofs.Turns.{rests-length}
 use Rattle.same_rules.specs.Compared.{RowOf}
@@ -111,7 +111,7 @@ module _ {F I G J : List ℕ} {M N : Table} (o : Opened F I M) (p : Opened G J N
 
   -- Where the two rules have the same words in turn, a test of their children tells.
   pub told-match : (R : ℕ → ℕ → Type 0) {x y : ℕ} {z : Bool} → MatchFor Any M N q r (a .symbol) → Kept M q f x → Kept N r f y
-      → ((m n : ℕ) (b d : Rule) → Holds x m b → Holds y n d → length (b .rest) ≡ length (d .rest) → Told (Kids R (b .rest) (d .rest)) z)
+      → ((m n : ℕ) (b d : Rule) → Encodes x m b → Encodes y n d → length (b .rest) ≡ length (d .rest) → Told (Kids R (b .rest) (d .rest)) z)
       → Told (MatchFor R M N q r (a .symbol)) z
   told-match R {x} {y} {z} h k l t =
       let here = subst (λ (g : ℕ). MatchFor Any M N q r g) (sym e) h in

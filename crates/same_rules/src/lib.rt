@@ -14,7 +14,7 @@ ghost use Rattle.layout.specs.Leaves.{RulesOf};
 ghost use Rattle.layout.specs.Kids.{Alike};
 ghost use Rattle.same_words.specs.Words.{Any};
 ghost use Rattle.same_rules.specs.Compared.{Mapped, Whole, RowOf};
-use layout::Rules;
+use rule_leaves::Rules;
 use same_words::same_words_in;
 
 // Whether rule i, of state q, and the rule of r for its symbol have as many children and the same words in turn.
@@ -32,15 +32,15 @@ fn same_shape(
         → Opened (now (frames2 .entry)) (now (numbers2 .entry)) N → RowOf M q i a → r < N .states
         → Told (twins.Rules Any (find (M .rows) q (a .symbol)) (find (N .rows) r (a .symbol))) x) ⌝ }
 {
-    let f = layout::symbol_full(numbers, i);
-    let y = layout::kept_full(numbers2, r, f);
+    let f = rule_leaves::symbol_of_full(numbers, i);
+    let y = rule_leaves::kept_for_full(numbers2, r, f);
     if y == 0 {
         return false;
     }
     same_words_in(
         frames,
         numbers,
-        layout::kept_full(numbers, q, f),
+        rule_leaves::kept_for_full(numbers, q, f),
         frames2,
         numbers2,
         y,
@@ -69,7 +69,7 @@ pub fn same_shapes(
         }
         i += 1;
     }
-    let others = layout::rules_here(numbers2, r);
+    let others = rule_leaves::rules_of_full(numbers2, r);
     mine.to + others.from == others.to + mine.from
 }
 
@@ -88,12 +88,12 @@ fn same_kids(
         → RowOf M q i a → r < N .states → twins.Rules Any (find (M .rows) q (a .symbol)) (find (N .rows) r (a .symbol))
         → Told (twins.Rules (Alike (now (map .entry)) (now (map2 .entry))) (find (M .rows) q (a .symbol)) (find (N .rows) r (a .symbol))) x) ⌝ }
 {
-    let f = layout::symbol_full(numbers, i);
-    layout::kids_alike(
+    let f = rule_leaves::symbol_of_full(numbers, i);
+    rule_leaves::kids_alike(
         map,
-        layout::kept_full(numbers, q, f),
+        rule_leaves::kept_for_full(numbers, q, f),
         map2,
-        layout::kept_full(numbers2, r, f),
+        rule_leaves::kept_for_full(numbers2, r, f),
     )
 }
 

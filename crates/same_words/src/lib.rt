@@ -34,7 +34,10 @@ fn same_letters(a: &[u8], b: &[u8]) -> bool
 fn same_word(frames: &[u8], p: usize, frames2: &[u8], s: usize) -> bool
     ensures { λ r. ⌜ ((u v : Word) (cs ds : List Child) → Spot (now (frames .entry)) u cs p → Spot (now (frames2 .entry)) v ds s → Told (u ≡ v) r) ⌝ }
 {
-    same_letters(layout::word_at(frames, p), layout::word_at(frames2, s))
+    same_letters(
+        word_leaves::word_at(frames, p),
+        word_leaves::word_at(frames2, s),
+    )
 }
 
 // Whether the words from two spots on are equal in turn, with as many children behind each.
@@ -51,8 +54,8 @@ fn words_from(frames: &[u8], p: usize, frames2: &[u8], s: usize, kids: usize) ->
         if !same_word(frames, a, frames2, b) {
             return false;
         }
-        a = layout::next_spot(frames, a);
-        b = layout::next_spot(frames2, b);
+        a = word_leaves::next_spot(frames, a);
+        b = word_leaves::next_spot(frames2, b);
         left -= 1;
     }
     same_word(frames, a, frames2, b)
@@ -70,14 +73,14 @@ pub fn same_words_in(
     ensures { λ r. ⌜ ((M N : Table) (a b : Row) → RowIn (now (frames .entry)) (now (numbers .entry)) M a x
         → RowIn (now (frames2 .entry)) (now (numbers2 .entry)) N b y → Told (Rules Any (some (a .rule)) (some (b .rule))) r) ⌝ }
 {
-    if layout::letters_in(x) != layout::letters_in(y) {
+    if rule_leaves::letters_in(x) != rule_leaves::letters_in(y) {
         return false;
     }
-    let kids = layout::kids_in(x);
-    if kids != layout::kids_in(y) {
+    let kids = rule_leaves::kids_in(x);
+    if kids != rule_leaves::kids_in(y) {
         return false;
     }
-    let p = layout::spot_of(numbers, layout::number_in(x));
-    let s = layout::spot_of(numbers2, layout::number_in(y));
+    let p = rule_leaves::spot_of(numbers, rule_leaves::number_in(x));
+    let s = rule_leaves::spot_of(numbers2, rule_leaves::number_in(y));
     words_from(frames, p, frames2, s, kids)
 }

@@ -5,16 +5,16 @@ ghost use Prim.Native.Nat.{ℕ, _<_, _≤_};
 ghost use Rattle.machine.specs.Machine.{Rule};
 ghost use Rattle.text.specs.Limits.{statesMost};
 ghost use Rattle.layout.specs.Layout.{MeantBy};
-ghost use Rattle.layout.specs.Leaves.{Holds};
+ghost use Rattle.layout.specs.Leaves.{Encodes};
 ghost use Rattle.form_laws.specs.Listed.{kids};
 ghost use Rattle.visit_queue.specs.Queue.{QueueRoom, queueOf, StatesMet, statesOf};
 use layout::STATES;
 use layout::byte;
-use layout::child_in;
-use layout::kept_of;
-use layout::kids_in;
-use layout::rules_of;
 use layout::wide;
+use rule_leaves::child_in;
+use rule_leaves::kept_of;
+use rule_leaves::kids_in;
+use rule_leaves::rules_of;
 
 // Meets state q: if its class is not known, the class gets the next free number, and q is put behind the states of the list.
 // `known` has, for each class, one more than its number, or 0; the answer is how many states are listed then.
@@ -40,7 +40,7 @@ pub fn meet(rep: &[u8], q: usize, order: &mut [u8], known: &mut [u8], count: usi
 fn meet_children(x: u64, rep: &[u8], order: &mut [u8], known: &mut [u8], count: usize) -> usize
     requires { ⌜ (count ≤ statesMost) × QueueRoom (now rep) (now order) (now known) ⌝ }
     ensures { λ n. ⌜ n ≤ statesMost ⌝ }
-    ensures { λ n. ⌜ ((i : ℕ) (r : Rule) → Holds x i r
+    ensures { λ n. ⌜ ((i : ℕ) (r : Rule) → Encodes x i r
         → StatesMet (now (rep .entry)) (statesOf (r .rest)) (queueOf (now (order .entry)) (now (known .entry)) count)
         (queueOf (now (order .exit)) (now (known .exit)) n)) ⌝ }
 {

@@ -7,7 +7,7 @@ use lib.ListN.{length, getD, set, length-set}
 use lib.Seq.{getD-set-same, getD-set-other}
 use Rattle.machine.specs.Machine.{Child, Rule}
 use Rattle.text.specs.Limits.{statesMost, arityMost}
-use Rattle.layout.specs.Leaves.{Holds, stateNo}
+use Rattle.layout.specs.Leaves.{Encodes, stateNo}
 use Rattle.waiting.specs.Waiting.{kids, under, waits, Later, ChildrenPushed, NextIs, TurnMade}
 
 -- There are as many.
@@ -68,11 +68,11 @@ record Stacked (W W′ : List ℕ) (n e : ℕ) (cs : List Child) : Type 0 where
   pub third : Behind cs e 2 (getD W′ (suc (suc (suc n))) 0)
 
 -- A number that is a level and a child's state is that child's waiting number.
-later-behind : {x level n a i : ℕ} {r : Rule} (e : ℕ) (b : ℕ) → b ≡ a → Later x level n a → Holds x i r → level ≡ statesMost * e → Behind (r .rest) e n b
+later-behind : {x level n a i : ℕ} {r : Rule} (e : ℕ) (b : ℕ) → b ≡ a → Later x level n a → Encodes x i r → level ≡ statesMost * e → Behind (r .rest) e n b
 later-behind {i = i} {r = r} e b z l h d j m = let s = l .of i r j h m in omega (arith, l .is)
 
 -- Where a rule's children were pushed, they stand on the stack.
-pushed-children : {x level i : ℕ} {r : Rule} (W W′ : List ℕ) (n top e : ℕ) → ChildrenPushed x level top W W′ → Holds x i r → level ≡ statesMost * e
+pushed-children : {x level i : ℕ} {r : Rule} (W W′ : List ℕ) (n top e : ℕ) → ChildrenPushed x level top W W′ → Encodes x i r → level ≡ statesMost * e
     → top ≡ suc n → top + 2 < length W → Stacked W W′ n e (r .rest)
 pushed-children {x} {level} {i} {r} W W′ n top e p h d t l =
     let s = subst⁻¹ (λ (X : List ℕ). ThreeStored W X n (p .last) (p .second) (p .third)) (p .stored)
@@ -118,7 +118,7 @@ push W W′ n e u next top (c₁ ∷ c₂ ∷ c₃ ∷ c₄ ∷ []) l f₀ s x d
 push W W′ n e u next top (c₁ ∷ c₂ ∷ c₃ ∷ c₄ ∷ c₅ ∷ cs) l f₀ s x d = absurd (omega arith)
 
 -- After a turn with a rule its children wait on the stack, over what waited below.
-pub turn-waits : {x v top next i : ℕ} {W W′ : List ℕ} {r : Rule} (top′ : ℕ) → TurnMade x v top W W′ next → Holds x i r → 0 < top → top + 2 < length W
+pub turn-waits : {x v top next i : ℕ} {W W′ : List ℕ} {r : Rule} (top′ : ℕ) → TurnMade x v top W W′ next → Encodes x i r → 0 < top → top + 2 < length W
     → suc top′ ≡ top + length (r .rest) → waits W′ top′ next ≡ kids (suc (v / statesMost)) (r .rest) ++ under W (top - 1)
 turn-waits {v = v} {top = top} {next = next} {i = i} {W = W} {W′ = W′} {r = r} top′ d h z l e =
     let above : ℕ = suc (v / statesMost) in

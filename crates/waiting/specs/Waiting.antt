@@ -7,7 +7,7 @@ use lib.ListN.{length, getD, set}
 use Rattle.machine.specs.Machine.{Child, Rule}
 use Rattle.text.specs.Limits.{symbolsMost, statesMost}
 use Rattle.trees.specs.Shape.{depthMost}
-use Rattle.layout.specs.Leaves.{Holds, stateNo}
+use Rattle.layout.specs.Leaves.{Encodes, stateNo}
 
 -- The waiting numbers of a rule's children with e symbols above them.
 abbrev pub kids : ℕ → List Child → List ℕ
@@ -28,7 +28,7 @@ waits W (suc n) next = next ∷ under W n
 pub record Later (x level n a : ℕ) : Type 0 where
   pub state : ℕ
   pub is : a ≡ level + state
-  pub of : (i : ℕ) (r : Rule) (j : ℕ) → Holds x i r → suc (suc j) + n ≡ length (r .rest) → state ≡ stateNo (r .rest) (suc j)
+  pub of : (i : ℕ) (r : Rule) (j : ℕ) → Encodes x i r → suc (suc j) + n ≡ length (r .rest) → state ≡ stateNo (r .rest) (suc j)
 
 -- From the stack W the stack W′ is made by storing, from place `top` on, the numbers of the last three children behind the first of the rule that x tells.
 pub record ChildrenPushed (x level top : ℕ) (W W′ : List ℕ) : Type 0 where
@@ -48,7 +48,7 @@ pub record NextIs (k below first next : ℕ) : Type 0 where
 
 -- The number n is what g says of the rule that x tells.
 abbrev pub ToldBy : ℕ → ℕ → (Rule → ℕ) → Type 0
-ToldBy x n g = (i : ℕ) (r : Rule) → Holds x i r → n ≡ g r
+ToldBy x n g = (i : ℕ) (r : Rule) → Encodes x i r → n ≡ g r
 
 -- A turn with the rule that x tells, from the number v on: its children are pushed on the stack W, which is then W′, and the number that comes next.
 pub record TurnMade (x v top : ℕ) (W W′ : List ℕ) (next : ℕ) : Type 0 where

@@ -28,9 +28,9 @@ fn push(stack: &mut [u16], top: usize, level: usize, x: u64)
     requires { ⌜ (level ≤ statesMost * depthMost) × (top + 3 ≤ length (now stack)) ⌝ }
     ensures { λ _. ⌜ ChildrenPushed x level top (now (stack .entry)) (now (stack .exit)) ⌝ }
 {
-    stack[top] = child(level, layout::later_in(x, 0));
-    stack[top + 1] = child(level, layout::later_in(x, 1));
-    stack[top + 2] = child(level, layout::later_in(x, 2));
+    stack[top] = child(level, rule_leaves::later_in(x, 0));
+    stack[top + 1] = child(level, rule_leaves::later_in(x, 1));
+    stack[top + 2] = child(level, rule_leaves::later_in(x, 2));
 }
 
 // The number that comes next: what waits below if a rule has no children, else the first child's.
@@ -48,9 +48,9 @@ pub fn turn(stack: &mut [u16], top: usize, next: usize, x: u64) -> usize
 {
     let level = level_below(next);
     let below = stack[top - 1];
-    let first = level + layout::first_in(x);
+    let first = level + rule_leaves::first_in(x);
     push(stack, top, level, x);
-    next_of(layout::kids_in(x), below, first)
+    next_of(rule_leaves::kids_in(x), below, first)
 }
 
 // Whether a number that comes next may meet a symbol: both are some that tables have, and the stack has room.

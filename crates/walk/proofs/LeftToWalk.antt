@@ -13,7 +13,7 @@ use Rattle.machine.proofs.Find.{find-fits}
 use Rattle.trees.specs.Preorder.{preorder, preorders, Levelss}
 use Rattle.trees.specs.Lacking.{lacks, lackss}
 use Rattle.trees.proofs.Levels.{levels-below}
-use Rattle.layout.specs.Leaves.{Holds, Tells, Kept, stateNo}
+use Rattle.layout.specs.Leaves.{Encodes, Tells, Kept, stateNo}
 use Rattle.walk.specs.Walked.{Stands}
 use Rattle.walk.proofs.Roots.{root-byte, below-bytes}
 
@@ -22,7 +22,7 @@ use Rattle.walk.proofs.Roots.{root-byte, below-bytes}
 pub record LeftToWalk (S : List ℕ) (at below q : ℕ) (M : Table) (t : Tree) (x j next : ℕ) (cs : List Child) (ts : Forest) : Type 0 where
   pub number : ℕ
   pub rule : Rule
-  pub holds : Holds x number rule
+  pub holds : Encodes x number rule
   pub kids : j + length cs ≡ length (rule .rest)
   pub states : (k : ℕ) → stateNo (rule .rest) (j + k) ≡ stateNo cs k
   pub trees : count ts ≡ length cs

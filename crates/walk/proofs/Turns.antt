@@ -9,7 +9,7 @@ use lib.ListN.{length, drop, length-append}
 use Rattle.machine.specs.Machine.{Tree, Forest, ∅, _▸_, Child, Rule, Table}
 use Rattle.trees.specs.Preorder.{preorder, preorders, Levelss}
 use Rattle.trees.specs.Lacking.{orElse, lacks, lackss}
-use Rattle.layout.specs.Leaves.{Holds, stateNo}
+use Rattle.layout.specs.Leaves.{Encodes, stateNo}
 use Rattle.layout.proofs.Stretches.{further}
 use Rattle.walk.specs.Walked.{Stands, walked, Onward}
 use Rattle.walk.specs.declared.Walk.{Walk}
@@ -76,7 +76,7 @@ module _ {F I S : List ℕ} {at levels : ℕ} {M : Table} {t : Tree} (stands : S
         one-more : (k : ℕ) → j + 1 + k ≡ j + suc k
         one-more k = omega arith
 
-  module _ (g : Walking S at below q M t x j next) (many : ℕ) (told-many : (i : ℕ) (r : Rule) → Holds x i r → many ≡ length (r .rest)) where
+  module _ (g : Walking S at below q M t x j next) (many : ℕ) (told-many : (i : ℕ) (r : Rule) → Encodes x i r → many ≡ length (r .rest)) where
     -- Where no child is left, nothing is lacking, and the tree ends there.
     pub walking-last : many ≤ j → Ends next ≡ walked (lacks M q t at) (at + length (preorder t))
     unfolding lackss preorders
@@ -87,7 +87,7 @@ module _ {F I S : List ℕ} {at levels : ℕ} {M : Table} {t : Tree} (stands : S
         go (c ∷ cs) ts h = absurd (omega (arith, h .kids, told-many (h .number) (h .rule) (h .holds)))
         go [] (t₁ ▸ ts) h = absurd (omega (arith, h .trees))
 
-    module _ (due : j < many) (s : ℕ) (told-state : (i : ℕ) (r : Rule) → Holds x i r → j < length (r .rest) → s ≡ stateNo (r .rest) j) (w : Walk)
+    module _ (due : j < many) (s : ℕ) (told-state : (i : ℕ) (r : Rule) → Encodes x i r → j < length (r .rest) → s ≡ stateNo (r .rest) j) (w : Walk)
         (told : (t′ : Tree) → Stands F I S next below M t′ → w ≡ walked (lacks M s t′ next) (next + length (preorder t′))) where
       -- The state is that of the first of the children that are left.
       child-state : (c : Child) (cs : List Child) (ts : Forest) → LeftToWalk S at below q M t x j next (c ∷ cs) ts → s ≡ c .state

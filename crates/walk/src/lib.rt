@@ -29,15 +29,15 @@ pub fn lacking(levels: usize, numbers: &[u64], tree: &[u8], at: usize, q: usize)
     if levels == 0 || at == tree.len() {
         return Walk::Lacks(at);
     }
-    let x = layout::kept_for(numbers, q, layout::wide(tree[at]));
+    let x = rule_leaves::kept_for(numbers, q, layout::wide(tree[at]));
     if x == 0 {
         return Walk::Lacks(at);
     }
-    let kids = layout::kids_in(x);
+    let kids = rule_leaves::kids_in(x);
     let mut j = 0;
     let mut next = at + 1;
     while j < kids {
-        let state = layout::child_in(x, j);
+        let state = rule_leaves::child_in(x, j);
         let below = lacking(levels - 1, numbers, tree, next, state);
         let Walk::Ends(after) = below else {
             return below;

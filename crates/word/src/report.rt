@@ -38,7 +38,7 @@ pub fn start() -> Watch {
 fn progress(counts: &[u64]) {
     let mut out = io::buffer();
     let at = output::put(b'\r', &mut out, 0);
-    let at = output::put_number(tally::total(counts), &mut out, at);
+    let at = output::put_number(line_counts::total(counts), &mut out, at);
     let at = output::put_all(b" lines", &mut out, at);
     io::write_all(libc::STDERR_FILENO, output::front(&out, at));
 }
@@ -70,9 +70,9 @@ fn summary(shown: bool, counts: &[u64]) {
         io::write_all(libc::STDERR_FILENO, b"\r");
     }
     let mut out = io::buffer();
-    let lines = tally::total(counts);
+    let lines = line_counts::total(counts);
     let refused = &counts[1..STRANGE];
-    let at = tally::put_counts(lines, counts[0], refused, counts[STRANGE], &mut out, 0);
+    let at = line_counts::put_counts(lines, counts[0], refused, counts[STRANGE], &mut out, 0);
     io::write_all(libc::STDERR_FILENO, output::front(&out, at));
 }
 

@@ -12,14 +12,14 @@ use Rattle.trees.specs.Preorder.{preorder}
 use Rattle.trees.specs.Shape.{treeMost}
 use Rattle.layout.specs.Layout.{framesSize}
 use Rattle.layout.specs.Leaves.{Spot, Put}
-use Rattle.layout.proofs.Spots.{spot-within}
+use Rattle.word_leaves.proofs.Spots.{spot-within}
 use Rattle.walk.specs.Plan.{planUnit}
 use Rattle.word_writer.specs.WordWritten.{Due, WordWritten, Tidy, GoesOn, EndsBehind}
-use Rattle.word_writer.proofs.Planned.{ChildrenLeft, NextChild, no-levels, no-place, named-rule, left-next, left-last, next-level, next-place}
+use Rattle.word_writer.proofs.Planned.{ChildrenToWrite, NextToWrite, no-levels, no-place, named-rule, left-next, left-last, next-level, next-place}
 
 -- The answer r and the room R′ at the end are right for every planned tree with a word that n letters of room are enough for.
-abbrev pub Writes : List ℕ → List ℕ → ℕ → ℕ → ℕ → List ℕ → ℕ → Type 0
-Writes F P levels at n R′ r = (M : Table) (q : ℕ) (t : Tree) (w : Word) → Due F P at levels n M q t w → WordWritten w at (length (preorder t)) R′ r
+abbrev pub NodeWrites : List ℕ → List ℕ → ℕ → ℕ → ℕ → List ℕ → ℕ → Type 0
+NodeWrites F P levels at n R′ r = (M : Table) (q : ℕ) (t : Tree) (w : Word) → Due F P at levels n M q t w → WordWritten w at (length (preorder t)) R′ r
 
 -- There is no planned tree with a word that n letters of room are enough for.
 abbrev pub Nothing : List ℕ → List ℕ → ℕ → ℕ → ℕ → Type 0
@@ -43,7 +43,7 @@ pub record PartWritten (F P R : List ℕ) (M : Table) (levels place : ℕ) (w : 
   pub front : take end R ≡ acc
   pub size : length acc ≡ end
   pub spot : Spot F u cs p
-  pub rest : ChildrenLeft F P M levels place v next left cs
+  pub rest : ChildrenToWrite F P M levels place v next left cs
   pub whole : w ≡ acc ++ u ++ v
 
 -- Before a word is put, for every planned tree with a word that n letters of room are enough for.
@@ -92,7 +92,7 @@ module _ {F P : List ℕ} {levels at n : ℕ} {R : List ℕ} {end next left p : 
       })
 
   -- With no child left the word is written.
-  pub writing-last : (R₁ : List ℕ) (end₁ : ℕ) → Put F p end R R₁ end₁ → left ≡ 0 → Writes F P levels at n R₁ (end₁ * 65536 + next)
+  pub writing-last : (R₁ : List ℕ) (end₁ : ℕ) → Put F p end R R₁ end₁ → left ≡ 0 → NodeWrites F P levels at n R₁ (end₁ * 65536 + next)
   writing-last R₁ end₁ o z M q t w d =
       let h = g .part M q t w d in
       let a = part-put h R₁ end₁ (d .bytes) (omega (arith, d .fits)) o in
@@ -111,7 +111,7 @@ Onto F p p₁ = (u : Word) (c : Child) (cs : List Child) → Spot F u (c ∷ cs)
 -- A word was put, and the call for the child that is next, to which the room is lent on from its end, left ys there and answered r.
 pub record Called (F P : List ℕ) (levels : ℕ) (R : List ℕ) (end next left p : ℕ) (R₁ : List ℕ) (end₁ : ℕ) (ys : List ℕ) (r : ℕ) : Type 0 where
   pub put : Put F p end R R₁ end₁
-  pub wrote : Writes F P (levels - 1) next (length (take (length R₁ - end₁) (drop end₁ R₁))) ys r
+  pub wrote : NodeWrites F P (levels - 1) next (length (take (length R₁ - end₁) (drop end₁ R₁))) ys r
   pub tidy : Tidy (take (length R₁ - end₁) (drop end₁ R₁)) ys r
   pub kids : left ≡ 0 → ⊥
 
@@ -146,7 +146,7 @@ module _ {F P : List ℕ} {levels : ℕ} {R : List ℕ} {end next left p : ℕ} 
     word-put = part-put before R₁ end₁ (d .bytes) (omega (arith, d .fits)) (b .put)
 
     -- The child that is next.
-    child-next : NextChild F P M (levels - 1) (at + length (preorder t)) (before .v) next left (before .cs)
+    child-next : NextToWrite F P M (levels - 1) (at + length (preorder t)) (before .v) next left (before .cs)
     child-next = left-next (before .cs) (before .rest) (omega (arith, b .kids))
 
     -- It ends within the plan.

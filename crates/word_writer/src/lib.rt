@@ -57,14 +57,14 @@ fn node(
     let mut end: usize = 0;
     let mut next = at + 1;
     loop {
-        end = layout::put_word(frames, p, room, end);
+        end = word_leaves::put_word(frames, p, room, end);
         if left == 0 {
             return end * 65536 + next;
         }
         if !goes_on(lower, next, p) {
             return end * 65536 + next;
         }
-        p = layout::spot_behind(frames, p);
+        p = word_leaves::next_spot_full(frames, p);
         let below = node(lower, plan, frames, next, &mut room[end..]);
         next = below % 65536;
         end = end + below / 65536;

@@ -37,15 +37,15 @@ loop-holds c =
 
 returns-2 : tie.Need-returns-2 Inv-loop μ-loop
 returns-2 c =
-    let at-rules-here = c .before .before .before .before in
-    let at-entry = at-rules-here .before .before .before .before .before .before .before .before in
+    let at-rules-of-full = c .before .before .before .before in
+    let at-entry = at-rules-of-full .before .before .before .before .before .before .before .before in
     let a = at-entry .args in
     let l = c .before .before .before .loop in
     let d = c .before .leads .ensures in
     let before = c .before .before .loop-test .taken in (
       (omega arith, d .0 (c .if2 .taken)),
       λ M n o e h b.
-          let mine = at-rules-here .rules-here .ensures .1 (a .frames .now) M o (omega (arith, e, h)) in
+          let mine = at-rules-of-full .rules-of-full .ensures .1 (a .frames .now) M o in
           picked-first M (a .rep .now) (a .next .now) (a .q) (l .r)
           (d .1 M n o mine e h (omega (arith, h, before)) b .if-true (c .if2 .taken))
           (l .inv .1 M n o e h b),
@@ -53,15 +53,15 @@ returns-2 c =
 
 loop-again : tie.Need-loop-again Inv-loop μ-loop
 loop-again c =
-    let at-rules-here = c .before .before .before .before in
-    let at-entry = at-rules-here .before .before .before .before .before .before .before .before in
+    let at-rules-of-full = c .before .before .before .before in
+    let at-entry = at-rules-of-full .before .before .before .before .before .before .before .before in
     let a = at-entry .args in
     let l = c .before .before .before .loop in
     let d = c .before .leads .ensures in
     let before = c .before .before .loop-test .taken in (
       omega arith,
       λ M n o e h b.
-          let mine = at-rules-here .rules-here .ensures .1 (a .frames .now) M o (omega (arith, e, h)) in
+          let mine = at-rules-of-full .rules-of-full .ensures .1 (a .frames .now) M o in
           below-more (λ (p : ℕ). Leads M (a .rep .now) (a .next .now) (a .q) p → ⊥) (l .r) (l .inv .1 M n o e h b)
           (d .1 M n o mine e h (omega (arith, h, before)) b .if-false (c .if2 .left)),
     )

@@ -7,14 +7,14 @@ use lib.ListN.{length, getD}
 use borrow.Author.Count.{below-more}
 use Rattle.words.proofs.Told.{told-yes, told-no}
 use Rattle.machine.specs.Machine.{Rule}
-use Rattle.layout.specs.Leaves.{Holds, stateNo}
+use Rattle.layout.specs.Leaves.{Encodes, stateNo}
 use Rattle.empty_words.proofs.Rules.{FirstKept, all-kept, one-lacks}
 use Rattle.empty_words.proofs.all_blank.Statement.{statement}
 use Rattle.empty_words.proofs.all_blank.Tie as tie
 
 abbrev Inv-loop : tie.InvT-loop
 Inv-loop x values kids j₀ j =
-    (i : ℕ) (r : Rule) → Holds x i r → (kids ≡ length (r .rest)) × FirstKept values (r .rest) j
+    (i : ℕ) (r : Rule) → Encodes x i r → (kids ≡ length (r .rest)) × FirstKept values (r .rest) j
 
 abbrev μ-loop : tie.MeasureT-loop
 μ-loop x values kids j₀ j =

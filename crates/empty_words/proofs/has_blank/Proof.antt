@@ -22,7 +22,7 @@ abbrev μ-loop : tie.MeasureT-loop
 
 loop-holds : tie.Need-loop-holds Inv-loop μ-loop
 loop-holds c =
-    (omega arith, c .rules-in .ensures .0 .0, λ F M o. (c .rules-in .ensures .1 F M o, λ j row e a b. absurd (omega arith)))
+    (omega arith, c .rules-of-full .ensures .0 .0, λ F M o. (c .rules-of-full .ensures .1 F M o, λ j row e a b. absurd (omega arith)))
 
 returns : tie.Need-returns Inv-loop μ-loop
 returns c =
@@ -35,7 +35,7 @@ returns c =
     let v = l .inv .2 F M o in
     told-yes
     (one-found M xs _ (v .0) (l .i) (l .inv .0) (c .before .before .before .loop-test .taken)
-    (λ row e. b .ensures (l .i) (row .rule) (c .before .before .kept-at .ensures F M row o e) .if-true (c .if1 .taken)))
+    (λ row e. b .ensures (l .i) (row .rule) (c .before .before .kept-of-full .ensures F M row o e) .if-true (c .if1 .taken)))
 
 loop-again : tie.Need-loop-again Inv-loop μ-loop
 loop-again c =
@@ -50,7 +50,7 @@ loop-again c =
           let v = l .inv .2 F M o in (
             v .0,
             none-more M xs _ (l .i) (v .1)
-                (λ row e. b .ensures (l .i) (row .rule) (c .before .before .kept-at .ensures F M row o e) .if-false (c .if1 .left)),
+                (λ row e. b .ensures (l .i) (row .rule) (c .before .before .kept-of-full .ensures F M row o e) .if-false (c .if1 .left)),
           ),
     )
 

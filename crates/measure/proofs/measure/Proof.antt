@@ -46,7 +46,7 @@ met c = c .before .usual .ensures .if-true (not-false _ (c .if2 .left))
 
 -- What is kept was looked up; above it the loop's head, and the entry.
 abbrev Looked : Type 0
-Looked = tie.After-kept-here Inv-loop μ-loop
+Looked = tie.After-kept-for-full Inv-loop μ-loop
 
 abbrev round : Looked → tie.At-loop Inv-loop μ-loop
 round c = c .before .before .before .before .before .before .before
@@ -56,13 +56,13 @@ start c = round c .before .before .before .before .before .before .before .befor
 
 -- What is kept for the number that comes next and its symbol.
 kept : (c : Looked) → let l = round c .loop in let a = start c .args in
-    KeptAt (a .numbers .now) (l .next) (getD (a .tree .now) (l .at) 0) (c .kept-here .result)
+    KeptAt (a .numbers .now) (l .next) (getD (a .tree .now) (l .at) 0) (c .kept-for-full .result)
 kept c =
     let symbol = c .before .before .before .before .wide in
-    subst (λ (f : ℕ). KeptAt (start c .args .numbers .now) (round c .loop .next) f (c .kept-here .result)) (symbol .ensures .0) (c .kept-here .ensures)
+    subst (λ (f : ℕ). KeptAt (start c .args .numbers .now) (round c .loop .next) f (c .kept-for-full .result)) (symbol .ensures .0) (c .kept-for-full .ensures)
 
-kept-here-requires : tie.Need-kept-here-requires Inv-loop μ-loop
-kept-here-requires c κs = (search needs, met (c .before) .symbol)
+kept-for-full-requires : tie.Need-kept-for-full-requires Inv-loop μ-loop
+kept-for-full-requires c κs = (search needs, search needs, met (c .before) .symbol)
 
 returns-3 : tie.Need-returns-3 Inv-loop μ-loop
 returns-3 c =
@@ -125,7 +125,7 @@ measure-spec =
     (λ c κs. search needs)
     (λ c κs. search needs)
     returns-2
-    kept-here-requires
+    kept-for-full-requires
     returns-3
     (λ c κs. search needs)
     (λ c. search needs)

@@ -8,7 +8,7 @@ use Rattle.layout.specs.Layout.{Opened}
 use Rattle.layout.specs.Leaves.{RowAt}
 use Rattle.summary.specs.Codes.{sideOf, decode}
 use Rattle.summary.proofs.Codes.{nothing-known}
-use Rattle.layout.proofs.Ahead.{ahead-begun, ahead-more, ahead-none}
+use Rattle.word_leaves.proofs.Ahead.{ahead-begun, ahead-more, ahead-none}
 use Rattle.rule_summary.proofs.Walks.{Gathering, gathering-begun, gathering-more, gathering-done, gathering-none}
 use Rattle.rule_summary.proofs.rule_value.Statement.{statement}
 use Rattle.rule_summary.proofs.rule_value.Tie as tie

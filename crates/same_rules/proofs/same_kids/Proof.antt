@@ -9,10 +9,10 @@ returns : tie.Need-returns
 returns c =
     let at-entry = c .before .before .before .before .before .before .before .before in
     let u = at-entry .args in
-    let f = c .before .before .before .symbol-full in
+    let f = c .before .before .before .symbol-of-full in
     λ F G M N a o p w l h.
     told-match o p (u .q) (u .r) (f .result) a w (f .ensures .1 F M a o (w .row)) (Alike (u .map .now) (u .map2 .now)) h
-    (c .before .before .kept-full .ensures F M o (row-state o w)) (c .before .kept-full2 .ensures G N p l) (c .kids-alike .ensures)
+    (c .before .before .kept-for-full .ensures F M o (row-state o w)) (c .before .kept-for-full2 .ensures G N p l) (c .kids-alike .ensures)
 
 pub same-kids-spec : {M : Type 1} → statement M
 same-kids-spec =

@@ -5,7 +5,7 @@ use native.Mathlib.Omega.{arith}
 use borrow.Author.Needs.{needs}
 use lib.ListN.{length, take, drop, length-set}
 use lib.Seq.{take-all}
-use Rattle.layout.proofs.Putting.{piece-grows}
+use Rattle.word_leaves.proofs.Putting.{piece-grows}
 use Rattle.tree_word.proofs.saved.Statement.{statement}
 use Rattle.tree_word.proofs.saved.Tie as tie
 

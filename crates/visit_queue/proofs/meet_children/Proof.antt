@@ -6,7 +6,7 @@ use lib.ListN.{length, drop}
 use borrow.Author.Needs.{needs}
 use Rattle.machine.specs.Machine.{Rule}
 use Rattle.text.specs.Limits.{statesMost}
-use Rattle.layout.specs.Leaves.{Holds}
+use Rattle.layout.specs.Leaves.{Encodes}
 use Rattle.visit_queue.specs.Queue.{VisitQueue, queueOf, StatesMet, statesOf}
 use Rattle.visit_queue.proofs.Meeting.{children-next, children-end}
 use Rattle.visit_queue.proofs.meet_children.Statement.{statement}
@@ -15,7 +15,7 @@ use Rattle.visit_queue.proofs.meet_children.Tie as tie
 abbrev Inv-loop : tie.InvT-loop
 Inv-loop x rep order₀ known₀ count kids n₀ j₀ order known n j =
     (n ≤ statesMost) × (length order ≡ length order₀) × (length known ≡ length known₀)
-    × ((i : ℕ) (r : Rule) (b : VisitQueue) → Holds x i r → StatesMet rep (drop j (statesOf (r .rest))) (queueOf order known n) b
+    × ((i : ℕ) (r : Rule) (b : VisitQueue) → Encodes x i r → StatesMet rep (drop j (statesOf (r .rest))) (queueOf order known n) b
     → StatesMet rep (statesOf (r .rest)) (queueOf order₀ known₀ count) b)
 
 abbrev μ-loop : tie.MeasureT-loop

@@ -21,9 +21,9 @@ use borrow.Fn.PlainCycle.{Measures, is, falls, and}
 use Rattle.walk.proofs.lacking.Reads as lacking
 use Rattle.walk.proofs.lacking.Kinds as lacking-kinds
 use Rattle.walk.proofs.+lacking.Lts-lacking as lts
-use Rattle.layout.proofs.child_in.Reads as child-in-reads
-use Rattle.layout.proofs.kept_for.Reads as kept-for-reads
-use Rattle.layout.proofs.kids_in.Reads as kids-in-reads
+use Rattle.rule_leaves.proofs.child_in.Reads as child-in-reads
+use Rattle.rule_leaves.proofs.kept_for.Reads as kept-for-reads
+use Rattle.rule_leaves.proofs.kids_in.Reads as kids-in-reads
 use Rattle.layout.proofs.wide.Reads as wide-reads
 use Rattle.walk.proofs.+lacking.{statement}
 use Rattle.walk.proofs.+lacking.Tie.{close}

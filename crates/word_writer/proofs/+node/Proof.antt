@@ -15,8 +15,8 @@ use borrow.Fn.PlainCycle.{Measures, is, falls, and}
 use Rattle.word_writer.proofs.node.Reads as node
 use Rattle.word_writer.proofs.node.Kinds as node-kinds
 use Rattle.word_writer.proofs.+node.Lts-node as lts
-use Rattle.layout.proofs.put_word.Reads as put-word-reads
-use Rattle.layout.proofs.spot_behind.Reads as spot-behind-reads
+use Rattle.word_leaves.proofs.put_word.Reads as put-word-reads
+use Rattle.word_leaves.proofs.next_spot_full.Reads as next-spot-full-reads
 use Rattle.word_writer.proofs.goes_on.Reads as goes-on-reads
 use Rattle.word_writer.proofs.narrow.Reads as narrow-reads
 use Rattle.word_writer.proofs.+node.{statement}
@@ -39,8 +39,8 @@ K t = (
   put-word-reads.Learnt,
   goes-on-reads.Asked,
   goes-on-reads.Learnt,
-  spot-behind-reads.Asked,
-  spot-behind-reads.Learnt,
+  next-spot-full-reads.Asked,
+  next-spot-full-reads.Learnt,
   node-below t,
   node.Post,
 )
@@ -139,8 +139,8 @@ returns-2 t c =
           (omega (arith, l .inv .4)),
     )
 
-spot-behind-requires : (t : ℕ) → place t lts.Need-spot-behind-requires
-spot-behind-requires t c κs = goes t c .spot
+next-spot-full-requires : (t : ℕ) → place t lts.Need-next-spot-full-requires
+next-spot-full-requires t c κs = goes t c .spot
 
 node-requires : (t : ℕ) → place t lts.Need-node-requires
 node-requires t c κs = let g = goes t (c .before .before) in let l = g .level in let h = g .place in search needs
@@ -151,7 +151,7 @@ loop-again t c =
     let b = called t r in
     let p : Written t = answered-written t r in
     let l = written-turn t p .loop in
-    let o = r .before .before .spot-behind in
+    let o = r .before .before .next-spot-full in
     let g = goes t (r .before .before .before) in (
       writing-more b (l .inv .0) (l .inv .2) (o .result) (o .ensures),
       omega (arith, called-long b, called-letters b),
@@ -182,7 +182,7 @@ pub +node-spec : {M : Type 1} → statement M
     (λ c. search needs)
     (λ c. search needs)
     (returns-2 t)
-    (spot-behind-requires t)
+    (next-spot-full-requires t)
     (λ c. search needs)
     (λ c. search needs)
     (λ c. search needs)

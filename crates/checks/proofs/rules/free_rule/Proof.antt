@@ -8,7 +8,7 @@ use Rattle.end_laws.specs.Ends.{stuck}
 use Rattle.layout.specs.Layout.{Opened}
 use Rattle.layout.specs.Leaves.{RowAt}
 use Rattle.summary.specs.Codes.{decode}
-use Rattle.layout.proofs.Ahead.{ahead-begun, ahead-more, ahead-none}
+use Rattle.word_leaves.proofs.Ahead.{ahead-begun, ahead-more, ahead-none}
 use Rattle.checks.proofs.Rows.{ChildrenLeft, children-begun, children-more, children-stuck, children-done}
 use Rattle.checks.proofs.rules.free_rule.Statement.{statement}
 use Rattle.checks.proofs.rules.free_rule.Tie as tie

@@ -7,7 +7,7 @@ use Rattle.machine.specs.Machine.{Table}
 use Rattle.text.specs.Limits.{rowsMost}
 use Rattle.layout.specs.Layout.{Opened}
 use Rattle.layout.specs.Leaves.{RulesOf}
-use Rattle.layout.proofs.Numbered.{row-state-small}
+use Rattle.rule_leaves.proofs.Numbered.{row-state-small}
 use Rattle.summary.specs.Codes.{sideOf}
 use Rattle.summary.specs.Grown.{Grown}
 use Rattle.summary.proofs.Growing.{grown-none, grown-then, grown-most}
@@ -35,7 +35,7 @@ loop-holds : tie.Need-loop-holds Inv-loop μ-loop
 loop-holds c =
     let at-entry = c .before .before .before .before .before in
     let a = at-entry .args in
-    let r = c .rules-in .ensures in (
+    let r = c .rules-of-full .ensures in (
       r .0 .0,
       omega arith,
       grown-none (a .values .now),

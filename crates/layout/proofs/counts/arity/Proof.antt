@@ -5,20 +5,8 @@ use borrow.Author.Needs.{needs}
 use Rattle.layout.proofs.counts.arity.Statement.{statement}
 use Rattle.layout.proofs.counts.arity.Tie as tie
 
-mul-byte : tie.Need-mul-byte
-mul-byte c = search needs
-
-add-byte : tie.Need-add-byte
-add-byte c = search needs
-
-byte-requires : tie.Need-byte-requires
-byte-requires c κs = search needs
-
-wide-requires : tie.Need-wide-requires
-wide-requires c κs = search needs
-
 returns : tie.Need-returns
 returns c = (c .wide .ensures .1, λ I M o h. c .wide .ensures .0 ∙ c .before .byte .ensures ∙ arity o (c .before .before .before .args .f) h)
 
 pub arity-spec : {M : Type 1} → statement M
-arity-spec = tie.close (tie.spec mul-byte add-byte byte-requires wide-requires returns)
+arity-spec = tie.close (tie.spec (λ c. search needs) (λ c. search needs) (λ c κs. search needs) (λ c κs. search needs) returns)

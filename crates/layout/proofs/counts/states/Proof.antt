@@ -5,14 +5,12 @@ use borrow.Author.Needs.{needs}
 use Rattle.layout.proofs.counts.states.Statement.{statement}
 use Rattle.layout.proofs.counts.states.Tie as tie
 
-number-requires : tie.Need-number-requires
-number-requires c κs = search needs
-
-at-most-requires : tie.Need-at-most-requires
-at-most-requires c κs = search needs
-
 returns : tie.Need-returns
-returns c = (c .at-most .ensures .0, λ F M o. c .at-most .ensures .1 (omega (arith, c .before .number .ensures, o .head .states, o .limited .states)) ∙ c .before .number .ensures ∙ o .head .states)
+returns c =
+    let read = c .before .number .ensures in (
+      c .at-most .ensures .0,
+      λ F M o. c .at-most .ensures .1 (omega (arith, read, o .head .states, o .limited .states)) ∙ read ∙ o .head .states,
+    )
 
 pub states-spec : {M : Type 1} → statement M
-states-spec = tie.close (tie.spec number-requires at-most-requires returns)
+states-spec = tie.close (tie.spec (λ c κs. search needs) (λ c κs. search needs) returns)

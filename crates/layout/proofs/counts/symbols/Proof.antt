@@ -5,14 +5,12 @@ use borrow.Author.Needs.{needs}
 use Rattle.layout.proofs.counts.symbols.Statement.{statement}
 use Rattle.layout.proofs.counts.symbols.Tie as tie
 
-number-requires : tie.Need-number-requires
-number-requires c κs = search needs
-
-at-most-requires : tie.Need-at-most-requires
-at-most-requires c κs = search needs
-
 returns : tie.Need-returns
-returns c = (c .at-most .ensures .0, λ F M o. c .at-most .ensures .1 (omega (arith, c .before .number .ensures, o .head .symbols, o .limited .symbols)) ∙ c .before .number .ensures ∙ o .head .symbols)
+returns c =
+    let read = c .before .number .ensures in (
+      c .at-most .ensures .0,
+      λ F M o. c .at-most .ensures .1 (omega (arith, read, o .head .symbols, o .limited .symbols)) ∙ read ∙ o .head .symbols,
+    )
 
 pub symbols-spec : {M : Type 1} → statement M
-symbols-spec = tie.close (tie.spec number-requires at-most-requires returns)
+symbols-spec = tie.close (tie.spec (λ c κs. search needs) (λ c κs. search needs) returns)

@@ -7,14 +7,13 @@ use borrow.Author.Needs.{needs}
 use Rattle.layout.proofs.counts.word_after.Statement.{statement}
 use Rattle.layout.proofs.counts.word_after.Tie as tie
 
-place-requires : tie.Need-place-requires
-place-requires c κs = search needs
-
-stretch-requires : tie.Need-stretch-requires
-stretch-requires c κs = search needs
-
 returns : tie.Need-returns
-returns c = (c .stretch .ensures .1, λ M o. c .stretch .ensures .0 ∙ ap (λ (k : ℕ). wordAt (c .before .before .before .before .args .frames .now) k) (c .before .place .ensures ∙ o .head .after) ∙ after-word o)
+returns c =
+    let entry = c .before .before .before .before in
+    let F = entry .args .frames .now in (
+      c .stretch .ensures .1,
+      λ M o. c .stretch .ensures .0 ∙ ap (λ (k : ℕ). wordAt F k) (c .before .place .ensures ∙ o .head .after) ∙ after-word o,
+    )
 
 pub word-after-spec : {M : Type 1} → statement M
-word-after-spec = tie.close (tie.spec place-requires stretch-requires returns)
+word-after-spec = tie.close (tie.spec (λ c κs. search needs) (λ c κs. search needs) returns)

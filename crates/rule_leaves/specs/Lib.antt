@@ -1,0 +1,2 @@
+-- What looking up a rule answers.
+pub mod Lookup
