@@ -11,7 +11,7 @@ use Rattle.words.specs.Word.{Word}
 use Rattle.machine.specs.Machine.{Tree, Table}
 use Rattle.trees.specs.Shape.{depthMost}
 use Rattle.word_writer.specs.WordWritten.{Due, Tidy}
-use Rattle.word_writer.proofs.Writing.{Writes}
+use Rattle.word_writer.proofs.Writing.{NodeWrites}
 
 -- A list that is no longer than w and has w in front is w.
 front-is : (ys w : List ℕ) → length ys ≤ length w → take (length w) ys ≡ w → ys ≡ w
@@ -68,7 +68,7 @@ module _ {F P : List ℕ} {letters : ℕ} {M : Table} {q : ℕ} {t : Tree} {w : 
 
   -- Exactly the word's part was lent.
   pub exactly-put : {s : ℕ} (R ys : List ℕ) (from : ℕ) → from + letters ≤ length R
-      → Writes F P depthMost 0 (length (take (from + letters - from) (drop from R))) ys s
+      → NodeWrites F P depthMost 0 (length (take (from + letters - from) (drop from R))) ys s
       → Tidy (take (from + letters - from) (drop from R)) ys s → putMid from (from + letters - from) R ys ≡ take from R ++ w ++ drop (from + letters) R
   exactly-put R ys from h wrote tidy =
       let end : ℕ = from + letters in
@@ -78,7 +78,7 @@ module _ {F P : List ℕ} {letters : ℕ} {M : Table} {q : ℕ} {t : Tree} {w : 
   -- 32 bytes more were lent, and put back.
   pub more-put : {s : ℕ} (R R′ ys piece : List ℕ) (from : ℕ) → from + letters + 32 ≤ length R
       → piece ≡ take 32 (drop (from + letters) R)
-      → Writes F P depthMost 0 (length (take (from + letters + 32 - from) (drop from R))) ys s
+      → NodeWrites F P depthMost 0 (length (take (from + letters + 32 - from) (drop from R))) ys s
       → Tidy (take (from + letters + 32 - from) (drop from R)) ys s
       → (let B = putMid from (from + letters + 32 - from) R ys in R′ ≡ take (from + letters) B ++ piece ++ drop (from + letters + length piece) B)
       → R′ ≡ take from R ++ w ++ drop (from + letters) R

@@ -51,7 +51,8 @@ returns-2 c =
     let at-entry = at-loop .before .before .before .before .before in
     let u = at-entry .args in
     λ M N o p A l.
-    told-ranges Any M N (o .limited .made .rising) (p .limited .made .rising) (u .q) (u .r) A (at-rules-of-full .rules-of-full .ensures .1 (u .frames2 .now) N p)
+    told-ranges Any M N (o .limited .made .rising) (p .limited .made .rising) (u .q) (u .r) A
+    (at-rules-of-full .rules-of-full .ensures .1 (u .frames2 .now) N p)
     (λ k a w. at-loop .loop .inv .1 M N o p A l k a w (omega (arith, all-passed A k a w, at-if1 .if1 .left)))
 
 pub same-shapes-spec : {M : Type 1} → statement M
