@@ -10,7 +10,7 @@ use lib.Seq.{getD-append-add}
 use borrow.Author.Tests.{lt-ltb, le-ltb}
 use Rattle.machine.specs.Form.{Test, numberIn, meet}
 use Rattle.form_laws.proofs.Lists.{All, all-at, mem-all}
-use Rattle.form_laws.proofs.Number.{Known, Apart, known-append, known-last, number-fresh, apart-last}
+use Rattle.form_laws.proofs.Number.{Known, PairwiseApart, known-append, known-last, number-fresh, apart-last}
 
 -- What a list is grown by: what all the offered states have, all new ones have.
 pub record GrownBy (P : ℕ → Type 0) (seen grown : List ℕ) : Type 0 where
@@ -67,7 +67,7 @@ module _ (same : Test) where
   grown-known P seen grown g q h = subst (λ (l : List ℕ). Known same l q) (sym (g .is)) (known-append same seen (g .new) q h)
 
   -- States that are apart stay apart.
-  pub meet-apart : (seen qs : List ℕ) → Apart same seen → Apart same (meet same seen qs)
+  pub meet-apart : (seen qs : List ℕ) → PairwiseApart same seen → PairwiseApart same (meet same seen qs)
   unfolding meet
   meet-apart seen [] a = a
   meet-apart seen (q ∷ qs) a =

@@ -24,8 +24,8 @@ module _ (same : Test) where
   Fresh seen q = All (λ r. same r q ≡ false) seen
 
   -- No state of the list is the same as one behind it.
-  abbrev pub Apart : List ℕ → Type 0
-  Apart seen = Ordered (λ q r. same q r ≡ false) seen
+  abbrev pub PairwiseApart : List ℕ → Type 0
+  PairwiseApart seen = Ordered (λ q r. same q r ≡ false) seen
 
   -- A first state that is the same has the number.
   pub number-here : (r : ℕ) (rs : List ℕ) (q : ℕ) → same r q ≡ true → numberIn same (r ∷ rs) q ≡ zero
@@ -74,7 +74,7 @@ module _ (same : Test) where
       by-test (same r q) (λ d. omega (arith, number-here r (rs ++ q ∷ []) q d)) (λ d. omega (arith, number-there r (rs ++ q ∷ []) q d, known-last rs q e))
 
   -- The states of a list whose states are apart have their places as numbers.
-  pub number-at : (seen : List ℕ) → Apart seen → (i : ℕ) → i < length seen
+  pub number-at : (seen : List ℕ) → PairwiseApart seen → (i : ℕ) → i < length seen
       → same (getD seen i zero) (getD seen i zero) ≡ true → numberIn same seen (getD seen i zero) ≡ i
   number-at [] a i l e = absurd (not-suc-le-zero l)
   number-at (r ∷ rs) a zero l e = number-here r rs r e
@@ -83,6 +83,6 @@ module _ (same : Test) where
       number-there r rs (getD rs i zero) f ∙ ap suc (number-at rs (a .1) i (le-of-suc-le-suc l) e)
 
   -- A fresh state put behind states that are apart is apart from them.
-  pub apart-last : (seen : List ℕ) (q : ℕ) → Apart seen → Fresh seen q → Apart (seen ++ q ∷ [])
+  pub apart-last : (seen : List ℕ) (q : ℕ) → PairwiseApart seen → Fresh seen q → PairwiseApart (seen ++ q ∷ [])
   apart-last [] q a f = (tt, tt)
   apart-last (r ∷ rs) q a f = (all-append (λ p. same r p ≡ false) rs (q ∷ []) (a .0) (f .0, tt), apart-last rs q (a .1) (f .1))

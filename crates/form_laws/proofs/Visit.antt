@@ -12,7 +12,7 @@ use Rattle.machine.specs.Form.{Test, Decides, meet}
 use Rattle.form_laws.specs.Listed.{Selfsame, kids}
 use Rattle.form_laws.proofs.Lists.{All, Ordered, all-map, all-append, mem-all}
 use Rattle.form_laws.proofs.Pigeon.{pigeonhole}
-use Rattle.form_laws.proofs.Number.{Known, Apart}
+use Rattle.form_laws.proofs.Number.{Known, PairwiseApart}
 use Rattle.form_laws.proofs.Meet.{GrownBy, grown-length, grown-old, grown-new, meet-grown, grown-known, meet-apart, meet-known}
 use Rattle.form_laws.proofs.Rows.{kids-inside}
 
@@ -27,7 +27,7 @@ pub record Visited (same : Test) (M : Table) (i : ℕ) (seen : List ℕ) : Type 
   pub some-state : zero < length seen
   pub first : getD seen zero zero ≡ M .start
   pub inside : All (λ q. q < M .states) seen
-  pub apart : Apart same seen
+  pub apart : PairwiseApart same seen
   pub within : i ≤ length seen
   pub taken : (j : ℕ) → j < i → All (Known same seen) (kids M (getD seen j zero))
   pub parents : (j : ℕ) → j < length seen → (j ≡ zero) ⊎ Parent M seen j
@@ -38,7 +38,7 @@ same-self same M D q l = D q q l l .1 (λ t. refl)
 
 module _ (same : Test) (M : Table) (W : WellMade M) (S : Selfsame same M) where
   -- States that are apart are different.
-  pub apart-different : (seen : List ℕ) → All (λ q. q < M .states) seen → Apart same seen → Ordered _≢_ seen
+  pub apart-different : (seen : List ℕ) → All (λ q. q < M .states) seen → PairwiseApart same seen → Ordered _≢_ seen
   apart-different [] h a = tt
   apart-different (q ∷ qs) h a = (go qs (a .0), apart-different qs (h .1) (a .1))
     where

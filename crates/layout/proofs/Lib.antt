@@ -4,4 +4,5 @@ pub mod Stretches
 pub mod Fit
 pub mod Heads
 pub mod Rows
+pub mod Means
 pub mod Growing

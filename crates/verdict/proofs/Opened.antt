@@ -18,7 +18,7 @@ use Rattle.empty_words.specs.Blank.{Blanks, EmptyTold, AllListed}
 use Rattle.empty_words.proofs.Empty.{blanks-witnessed}
 use Rattle.end_summaries.specs.Steps.{Settles}
 use Rattle.checks.specs.Checks.{allChecks}
-use Rattle.verdict.proofs.Promise.{AllReached, Known, checks-judged}
+use Rattle.verdict.proofs.Promise.{AllReached, SummariesKnown, checks-judged}
 
 -- What is kept for the states in the beginning is 0 for each.
 pub begun-zeros : (q : ℕ) → getD {A = ℕ} (replicate statesMost 0) q 0 ≡ 0
@@ -55,7 +55,7 @@ module _ {F I m O : List ℕ} {n : ℕ} {zs xs ys : List ℕ} {v : Verdict} (d :
   all-told all = d .empties F M o (all-listed all)
 
   -- What is known of the table in the end.
-  known : Known M m xs ys
+  known : SummariesKnown M m xs ys
   known =
       record {
         made = o .limited .made;

@@ -26,7 +26,7 @@ abbrev pub AllReached : Table → Type 0
 AllReached M = (q : ℕ) → q < M .states → Reached M q
 
 -- What is known of a table in the end: which states are reached, and the summaries at both sides, which cover all words if every state is.
-pub record Known (M : Table) (m xs ys : List ℕ) : Type 0 where
+pub record SummariesKnown (M : Table) (m xs ys : List ℕ) : Type 0 where
   pub made : WellMade M
   pub marked : (q : ℕ) → (getD m q 0 ≡ 0 → ⊥) → Reached M q
   pub reached : (q : ℕ) → Reached M q → getD m q 0 ≡ 0 → ⊥
@@ -35,7 +35,7 @@ pub record Known (M : Table) (m xs ys : List ℕ) : Type 0 where
   pub shown-right : Witnessed M right (K ys)
   pub fits-right : AllReached M → Covering M right (K ys)
 
-module _ (M : Table) (m xs ys : List ℕ) (k : Known M m xs ys) where
+module _ (M : Table) (m xs ys : List ℕ) (k : SummariesKnown M m xs ys) where
   -- 13
   tells-reached : CheckTells (checkAt 13 M m xs ys) (record { number = 13; places = M .states; holds = Reached M })
   tells-reached = record {

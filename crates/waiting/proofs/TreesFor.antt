@@ -35,7 +35,7 @@ TreesFor F P M (t ▸ ts) [] at n = ⊥
 TreesFor F P M (t ▸ ts) (v ∷ vs) at n = (h : TreeFor F P M t v at n) × TreesFor F P M ts vs (at + length (preorder t)) (h .more)
 
 -- Trees for a rule's children and for others: the first are right for the rest of the rule, the others for what waits behind.
-record Parted (F P : List ℕ) (M : Table) (ts : Forest) (e : ℕ) (cs : List Child) (vs : List ℕ) (at n : ℕ) : Type 0 where
+record ForestParted (F P : List ℕ) (M : Table) (ts : Forest) (e : ℕ) (cs : List Child) (vs : List ℕ) (at n : ℕ) : Type 0 where
   trees : Forest
   others : Forest
   bytes : preorders ts ≡ preorders trees ++ preorders others
@@ -51,7 +51,7 @@ record Parted (F P : List ℕ) (M : Table) (ts : Forest) (e : ℕ) (cs : List Ch
 
 module _ (F P : List ℕ) (M : Table) (e : ℕ) (vs : List ℕ) where
   -- No child: all trees are the others'.
-  part-none : (ts : Forest) (at n : ℕ) → TreesFor F P M ts vs at n → Parted F P M ts e [] vs at n
+  part-none : (ts : Forest) (at n : ℕ) → TreesFor F P M ts vs at n → ForestParted F P M ts e [] vs at n
   unfolding preorders Levelss words Planneds restLetters
   part-none ts at n h =
       let z : at ≡ at + 0 = omega arith in
@@ -73,7 +73,7 @@ module _ (F P : List ℕ) (M : Table) (e : ℕ) (vs : List ℕ) where
   -- A child: the first tree is its own.
   part-child : (t : Tree) (ts : Forest) (c : Child) (cs : List Child) (at n : ℕ) → c .state < statesMost
       → (h : TreeFor F P M t (statesMost * e + c .state) at n)
-      → Parted F P M ts e cs vs (at + length (preorder t)) (h .more) → Parted F P M (t ▸ ts) e (c ∷ cs) vs at n
+      → ForestParted F P M ts e cs vs (at + length (preorder t)) (h .more) → ForestParted F P M (t ▸ ts) e (c ∷ cs) vs at n
   unfolding preorders Levelss Planneds restLetters
   part-child t ts c cs at n k h p =
       let q : (statesMost * e + c .state) % statesMost ≡ c .state = omega arith in
@@ -100,7 +100,7 @@ module _ (F P : List ℕ) (M : Table) (e : ℕ) (vs : List ℕ) where
 
   -- Trees for a rule's children and for others part.
   part : (cs : List Child) (ts : Forest) (at n : ℕ) → Each (λ c ds. c .state < statesMost) cs
-      → TreesFor F P M ts (kids e cs ++ vs) at n → Parted F P M ts e cs vs at n
+      → TreesFor F P M ts (kids e cs ++ vs) at n → ForestParted F P M ts e cs vs at n
   part [] ts at n k h = part-none ts at n h
   part (c ∷ cs) ∅ at n k h = absurd h
   part (c ∷ cs) (t ▸ ts) at n k h = part-child t ts c cs at n (k .0) (h .0) (part cs ts (at + length (preorder t)) (h .0 .more) (k .1) (h .1))
@@ -121,7 +121,7 @@ pub record Forested (F P : List ℕ) (M : Table) (vs : List ℕ) (at n : ℕ) (b
 -- A symbol with the trees below it: right for the number v, where the rule of v's state is planned there and the trees are right for its children.
 grown : {F P : List ℕ} {M : Table} (f v : ℕ) (r : Rule) {ts : Forest} {vs : List ℕ} {at n : ℕ} → v < statesMost * depthMost
     → find (M .rows) (v % statesMost) f ≡ some r → Fitted M f r → Names F (getD P at 0) r
-    → Parted F P M ts (suc (v / statesMost)) (r .rest) vs (suc at) n → Forested F P M (v ∷ vs) at (ruleLetters r + n) (f ∷ preorders ts)
+    → ForestParted F P M ts (suc (v / statesMost)) (r .rest) vs (suc at) n → Forested F P M (v ∷ vs) at (ruleLetters r + n) (f ∷ preorders ts)
 unfolding preorder Levels Planned ruleLetters
 grown {F} {P} {M} f v r {ts} {vs} {at} {n} l e i m p =
     let d : depthMost - v / statesMost ≡ suc (depthMost - suc (v / statesMost)) = omega arith in

@@ -14,7 +14,7 @@ use Rattle.trees.specs.Preorder.{preorder, preorders, Levelss}
 use Rattle.trees.specs.Lacking.{lacks, lackss}
 use Rattle.trees.proofs.Levels.{levels-below}
 use Rattle.layout.specs.Leaves.{Encodes, Tells, Kept, stateNo}
-use Rattle.walk.specs.Walked.{Stands}
+use Rattle.walk.specs.Walked.{TreeStands}
 use Rattle.walk.proofs.Roots.{root-byte, below-bytes}
 
 -- The children cs behind the first j are left of the rule that x tells, and the trees ts of the tree t: where they stand, and that the tree lacks
@@ -55,12 +55,12 @@ root-lacks M q f at ts e = rw e refl
 
 module _ {F I S : List ℕ} {at levels : ℕ} {M : Table} where
   -- Where no rule is kept, the tree's first position lacks it.
-  pub missing-lacks : (t : Tree) (q f x : ℕ) → Stands F I S at levels M t → f ≡ getD S at 0 → Kept M q f x → x ≡ 0 → lacks M q t at ≡ some at
+  pub missing-lacks : (t : Tree) (q f x : ℕ) → TreeStands F I S at levels M t → f ≡ getD S at 0 → Kept M q f x → x ≡ 0 → lacks M q t at ≡ some at
   missing-lacks (node g ts) q f x h e k z =
       root-lacks M q g at ts (ap (λ (y : ℕ). find (M .rows) q y) (sym (e ∙ root-byte g ts h)) ∙ k .none z)
 
   -- Where a rule is kept, its children and the trees below are left.
-  pub walking-first : (t : Tree) (q f x : ℕ) → Stands F I S at levels M t → f ≡ getD S at 0 → Kept M q f x → (x ≡ 0 → ⊥)
+  pub walking-first : (t : Tree) (q f x : ℕ) → TreeStands F I S at levels M t → f ≡ getD S at 0 → Kept M q f x → (x ≡ 0 → ⊥)
       → Walking S at (levels - 1) q M t x 0 (at + 1)
   walking-first (node g ts) q f x h e k z =
       let a : Tells M q f x = k .some z in

@@ -11,7 +11,7 @@ use Rattle.trees.specs.Preorder.{preorder, preorders, Levelss}
 use Rattle.trees.specs.Lacking.{orElse, lacks, lackss}
 use Rattle.layout.specs.Leaves.{Encodes, stateNo}
 use Rattle.layout.proofs.Stretches.{further}
-use Rattle.walk.specs.Walked.{Stands, walked, Onward}
+use Rattle.walk.specs.Walked.{TreeStands, walked, Onward}
 use Rattle.walk.specs.declared.Walk.{Walk}
 use Rattle.walk.specs.declared.Walk.the-variants.{Ends, Lacks}
 use Rattle.walk.proofs.LeftToWalk.{LeftToWalk, Walking}
@@ -34,10 +34,10 @@ onward-ends at len r next e h = rw e at h
 pub onward-lacks : (at len : ℕ) (r : Walk) (p : ℕ) → r ≡ Lacks p → Onward at len r
 onward-lacks at len r p e = rw e tt
 
-module _ {F I S : List ℕ} {at levels : ℕ} {M : Table} {t : Tree} (stands : Stands F I S at levels M t) (below q x j next : ℕ) where
+module _ {F I S : List ℕ} {at levels : ℕ} {M : Table} {t : Tree} (stands : TreeStands F I S at levels M t) (below q x j next : ℕ) where
   module _ (c : Child) (cs : List Child) (t₁ : Tree) (ts : Forest) (h : LeftToWalk S at below q M t x j next (c ∷ cs) (t₁ ▸ ts)) where
     -- The first of the trees that are left stands at the place that was reached.
-    child-stands : Stands F I S next below M t₁
+    child-stands : TreeStands F I S next below M t₁
     unfolding preorders Levelss
     child-stands = record {
       opened = stands .opened;
@@ -88,7 +88,7 @@ module _ {F I S : List ℕ} {at levels : ℕ} {M : Table} {t : Tree} (stands : S
         go [] (t₁ ▸ ts) h = absurd (omega (arith, h .trees))
 
     module _ (due : j < many) (s : ℕ) (told-state : (i : ℕ) (r : Rule) → Encodes x i r → j < length (r .rest) → s ≡ stateNo (r .rest) j) (w : Walk)
-        (told : (t′ : Tree) → Stands F I S next below M t′ → w ≡ walked (lacks M s t′ next) (next + length (preorder t′))) where
+        (told : (t′ : Tree) → TreeStands F I S next below M t′ → w ≡ walked (lacks M s t′ next) (next + length (preorder t′))) where
       -- The state is that of the first of the children that are left.
       child-state : (c : Child) (cs : List Child) (ts : Forest) → LeftToWalk S at below q M t x j next (c ∷ cs) ts → s ≡ c .state
       unfolding stateNo

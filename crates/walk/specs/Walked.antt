@@ -18,7 +18,7 @@ abbrev pub Wordless : Table → List ℕ → ℕ → Type 0
 Wordless M S q = (t : Tree) → readTree (M .arities) S ≡ given t → word M q t ≡ none
 
 -- The tree t stands at `at` in the bytes S, ranked over the symbols of the table M that F and I mean, with at most so many levels.
-pub record Stands (F I S : List ℕ) (at allowed : ℕ) (M : Table) (t : Tree) : Type 0 where
+pub record TreeStands (F I S : List ℕ) (at allowed : ℕ) (M : Table) (t : Tree) : Type 0 where
   pub opened : Opened F I M
   pub ranked : Ranked (M .arities) t
   pub levels : Levels t allowed

@@ -7,7 +7,7 @@ ghost use lib.ListN.{length};
 ghost use Rattle.machine.specs.Machine.{Tree, Table};
 ghost use Rattle.trees.specs.Preorder.{preorder};
 ghost use Rattle.trees.specs.Lacking.{lacks};
-ghost use Rattle.walk.specs.Walked.{Stands, walked, Onward};
+ghost use Rattle.walk.specs.Walked.{TreeStands, walked, Onward};
 
 // From this unit on a plan's number tells how many children a rule has, and below it the spot of its first word.
 pub const PLAN_UNIT: usize = 131072;
@@ -22,7 +22,7 @@ pub enum Walk {
 // allowed. Whatever the lent numbers are, a walk that ends has gone on: no two calls are for one place.
 pub fn lacking(levels: usize, numbers: &[u64], tree: &[u8], at: usize, q: usize) -> Walk
     requires { ⌜ at ≤ length (now tree) ⌝ }
-    ensures { λ r. ⌜ ((F : List ℕ) (M : Table) (t : Tree) → Stands F (now (numbers .entry)) (now (tree .entry)) at levels M t
+    ensures { λ r. ⌜ ((F : List ℕ) (M : Table) (t : Tree) → TreeStands F (now (numbers .entry)) (now (tree .entry)) at levels M t
         → r ≡ walked (lacks M q t at) (at + length (preorder t))) ⌝ }
     ensures { λ r. ⌜ Onward at (length (now (tree .entry))) r ⌝ }
 {

@@ -17,7 +17,7 @@ use Rattle.shape.specs.declared.Shape.{Shape}
 use Rattle.shape.specs.declared.Shape.the-variants as shape
 use Rattle.shape.specs.Shaped.{Checked}
 use Rattle.walk.specs.declared.Walk.{Walk}
-use Rattle.walk.specs.Walked.{Stands, Wordless, walked}
+use Rattle.walk.specs.Walked.{TreeStands, Wordless, walked}
 use Rattle.why_no_word.specs.Answer.{placeOf}
 use Rattle.why_no_word.proofs.Read.{ends-given, shape-no, on-no, read-stands, on-lacking}
 
@@ -37,7 +37,7 @@ module _ {F I S : List ℕ} {M : Table} {s : Shape} (c : ShapeChecked F I S M s)
 
   -- A tree without a word is answered with 9 at the first position without a rule, where the walk down from the initial state stopped.
   pub lacking-answers : (p : ℕ) → s ≡ shape.Ends p → Wordless M S (M .start) → (q : ℕ) → q ≡ M .start → (z : Walk)
-      → ((F : List ℕ) (M : Table) (t : Tree) → Stands F I S 0 depthMost M t → z ≡ walked (lacks M q t 0) (0 + length (preorder t)))
+      → ((F : List ℕ) (M : Table) (t : Tree) → TreeStands F I S 0 depthMost M t → z ≡ walked (lacks M q t 0) (0 + length (preorder t)))
       → wordOn M S ≡ refused 9 (placeOf z)
   lacking-answers p e none q eq z told =
       let a = ends-given (readTree (M .arities) S) p (same-shape (shape.Ends p) e) in

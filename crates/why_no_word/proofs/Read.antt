@@ -16,7 +16,7 @@ use Rattle.layout.specs.Layout.{Opened}
 use Rattle.words.specs.declared.No.{No}
 use Rattle.shape.specs.declared.Shape.the-variants as shape
 use Rattle.shape.specs.Shaped.{Checked}
-use Rattle.walk.specs.Walked.{Stands}
+use Rattle.walk.specs.Walked.{TreeStands}
 
 -- Where the shape ends, there is a tree.
 pub ends-given : (o : Reply Tree) (p : ℕ) → Checked o (shape.Ends p) → (t : Tree) × (o ≡ given t)
@@ -41,7 +41,7 @@ module _ (M : Table) (S : List ℕ) where
 
   module _ (t : Tree) (read : readTree (M .arities) S ≡ given t) where
     -- A tree that was read stands at the front of the bytes.
-    pub read-stands : {F I : List ℕ} → Opened F I M → Stands F I S 0 depthMost M t
+    pub read-stands : {F I : List ℕ} → Opened F I M → TreeStands F I S 0 depthMost M t
     read-stands o =
         let s = read-sound (M .arities) S t read in
         record { opened = o; ranked = s .1; levels = s .2; behind = []; bytes = s .0 ∙ sym (append-nil (preorder t)) }

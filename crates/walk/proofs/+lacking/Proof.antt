@@ -11,7 +11,7 @@ use borrow.Author.Tests.{eqb-true, eqb-false}
 use lib.ListN.{length}
 use Rattle.machine.specs.Machine.{Tree, Table}
 use Rattle.trees.proofs.Levels.{no-level}
-use Rattle.walk.specs.Walked.{Stands}
+use Rattle.walk.specs.Walked.{TreeStands}
 use Rattle.walk.specs.declared.Walk.the-variants.{Ends}
 use Rattle.walk.proofs.Roots.{no-byte}
 use Rattle.walk.proofs.LeftToWalk.{Walking, missing-lacks, walking-first}
@@ -53,7 +53,7 @@ K t = (
 
 abbrev Inv-loop : lts.InvT-loop
 Inv-loop levels numbers tree at q x kids j₀ next₀ j next =
-    ((F : List ℕ) (M : Table) (t : Tree) → Stands F numbers tree at levels M t → Walking tree at (levels - 1) q M t x j next)
+    ((F : List ℕ) (M : Table) (t : Tree) → TreeStands F numbers tree at levels M t → Walking tree at (levels - 1) q M t x j next)
     × (at < next)
     × (next ≤ length tree)
 
