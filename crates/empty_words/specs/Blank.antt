@@ -10,7 +10,7 @@ use Rattle.machine.specs.Machine.{Child, Rule, Row, Table, Each}
 use Rattle.machine.specs.Earliest.{L}
 use Rattle.text.specs.Limits.{statesMost}
 use Rattle.end_laws.specs.Ends.{Ends}
-use Rattle.layout.specs.Layout.{ruleLetters, Opened}
+use Rattle.layout.specs.Layout.{ruleLetters, MeantBy}
 use Rattle.layout.specs.Leaves.{RowAt}
 
 -- What is kept for the states tells of the empty word alone, and truly.
@@ -47,7 +47,7 @@ pub record BlanksMarked (M : Table) (tried : ℕ → Type 0) (xs ys : List ℕ) 
 
 -- That is so for every table that is opened in the numbers I.
 abbrev pub Marks : List ℕ → (ℕ → Type 0) → List ℕ → List ℕ → ℕ → Type 0
-Marks I tried xs ys k = (F : List ℕ) (M : Table) → Opened F I M → BlanksMarked M tried xs ys k
+Marks I tried xs ys k = MeantBy I (λ M. BlanksMarked M tried xs ys k)
 
 -- State q is one of the order O from place i on and before place n.
 abbrev pub ListedBetween : List ℕ → ℕ → ℕ → ℕ → Type 0

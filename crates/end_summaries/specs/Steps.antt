@@ -6,7 +6,7 @@ use Rattle.machine.specs.Machine.{Row, Table}
 use Rattle.end_laws.specs.Ends.{Side, Ends, at}
 use Rattle.end_laws.specs.Meaning.{Witnessed, Covering}
 use Rattle.end_laws.specs.Companion.{visit}
-use Rattle.layout.specs.Layout.{Opened}
+use Rattle.layout.specs.Layout.{Meant}
 use Rattle.layout.specs.Leaves.{RowAt}
 use Rattle.summary.specs.Codes.{K, summaries}
 use Rattle.empty_words.specs.Blank.{EmptyTold, ListedBetween, AllListed}
@@ -25,7 +25,7 @@ pub record Tried (M : Table) (side : Side) (tried : ℕ → Row → Type 0) (xs 
 
 -- That is so for every table that is opened in the bytes F and the numbers I.
 abbrev pub Adds : List ℕ → List ℕ → Side → (ℕ → Row → Type 0) → List ℕ → List ℕ → ℕ → Type 0
-Adds F I side tried xs ys k = (M : Table) → Opened F I M → Tried M side tried xs ys k
+Adds F I side tried xs ys k = Meant F I (λ M. Tried M side tried xs ys k)
 
 -- The rules with the numbers from `from` on and before `to`.
 abbrev pub RulesBetween : ℕ → ℕ → ℕ → Row → Type 0
@@ -42,5 +42,5 @@ RulesOfListed O j n i row = ListedBetween O j n (row .state)
 -- What settling makes of the summaries xs, for every table that is opened in the bytes F and the numbers I.
 -- What they claim stays witnessed, and where each state is listed and xs is ready, every word fits.
 pub record Settles (F I O : List ℕ) (n : ℕ) (side : Side) (xs ys : List ℕ) : Type 0 where
-  pub shown : (M : Table) → Opened F I M → Witnessed M side (K xs) → Witnessed M side (K ys)
-  pub fits : (M : Table) → Opened F I M → AllListed M O n → ReadySummaries M side (K xs) → Covering M side (K ys)
+  pub shown : Meant F I (λ M. Witnessed M side (K xs) → Witnessed M side (K ys))
+  pub fits : Meant F I (λ M. AllListed M O n → ReadySummaries M side (K xs) → Covering M side (K ys))

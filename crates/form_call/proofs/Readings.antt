@@ -9,7 +9,7 @@ use Rattle.machine.specs.Machine.{Table}
 use Rattle.machine.specs.Earliest.{Earliest}
 use Rattle.text.specs.Writing.{writeTable}
 use Rattle.promises.specs.Room.{into}
-use Rattle.layout.specs.Layout.{Opened}
+use Rattle.layout.specs.Layout.{Meant}
 use Rattle.verdict.specs.declared.Judgement.{Judgement}
 use Rattle.verdict.specs.declared.Judgement.the-variants as judgement
 use Rattle.judge_call.specs.Judging.{Judges}
@@ -27,7 +27,7 @@ module _ {F I T R : List ℕ} {j : Judgement} {r : Formed} (h : Judges T F I j) 
       (record { reply = refusal x; answer = (refusal x, judged-late x h e, refl); told = refl; room = refl })
 
   -- The form call of an earliest table's text.
-  pub form-answers : {R′ : List ℕ} → j ≡ judgement.Earliest → ((M : Table) → Opened F I M → Earliest M → FormInto M R R′ r) → FormAnswered T R R′ r
+  pub form-answers : {R′ : List ℕ} → j ≡ judgement.Earliest → Meant F I (λ M. Earliest M → FormInto M R R′ r) → FormAnswered T R R′ r
   form-answers e f =
       let t = h .opened e in
       let i = f (t .table) (t .opened) (t .earliest) in

@@ -6,7 +6,7 @@ use lib.ListN.{length, getD, take}
 use Rattle.machine.specs.Machine.{Table}
 use Rattle.machine.specs.Form.{Test, numberIn, order}
 use Rattle.text.specs.Limits.{statesMost}
-use Rattle.layout.specs.Layout.{Opened}
+use Rattle.layout.specs.Layout.{MeantBy}
 use Rattle.visit_queue.specs.Queue.{byRep}
 
 -- The first n entries of O are the states of M by first visit, and N has the number of each state that has one.
@@ -17,4 +17,4 @@ pub record NumberedByVisit (same : Test) (M : Table) (O N : List ℕ) (n : ℕ) 
 
 -- The states are numbered by first visit, whatever their classes are.
 abbrev pub StatesNumbered : (I rep O N : List ℕ) (n : ℕ) → Type 0
-StatesNumbered I rep O N n = (F : List ℕ) (M : Table) → Opened F I M → NumberedByVisit (byRep rep) M O N n
+StatesNumbered I rep O N n = MeantBy I (λ M. NumberedByVisit (byRep rep) M O N n)

@@ -9,7 +9,7 @@ use Rattle.machine.specs.Form.{rowsOf, renumber, renumbered}
 use Rattle.form_laws.specs.Listed.{numberedRule}
 use Rattle.text.specs.Lines.{hexOf, lineOf}
 use Rattle.text.specs.Writing.{rowFrame, rowLines}
-use Rattle.layout.specs.Layout.{Opened, ruleText}
+use Rattle.layout.specs.Layout.{Opened, ruleText, Meant}
 use Rattle.layout.specs.Leaves.{RowAt}
 use Rattle.digits.specs.Room.{Wrote}
 
@@ -31,8 +31,8 @@ RuleWritten F I i n N R at S next = (M : Table) (r : Row) → Opened F I M → R
 
 -- The lines of state q were written under number n.
 abbrev pub RulesWritten : (F I : List ℕ) (q n : ℕ) (N R : List ℕ) (at : ℕ) (S : List ℕ) (next : ℕ) → Type 0
-RulesWritten F I q n N R at S next = (M : Table) → Opened F I M → Wrote R at (rowLines (map (renumber (named N) n) (rowsOf (M .rows) q))) S next
+RulesWritten F I q n N R at S next = Meant F I (λ M. Wrote R at (rowLines (map (renumber (named N) n) (rowsOf (M .rows) q))) S next)
 
 -- The lines of the first n states of O were written, each under its place there.
 abbrev pub StatesWritten : (F I O : List ℕ) (n : ℕ) (N R : List ℕ) (at : ℕ) (S : List ℕ) (next : ℕ) → Type 0
-StatesWritten F I O n N R at S next = (M : Table) → Opened F I M → n ≤ length O → Wrote R at (rowLines (renumbered (named N) (M .rows) zero (take n O))) S next
+StatesWritten F I O n N R at S next = Meant F I (λ M. n ≤ length O → Wrote R at (rowLines (renumbered (named N) (M .rows) zero (take n O))) S next)

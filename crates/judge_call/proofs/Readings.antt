@@ -10,7 +10,7 @@ use Rattle.machine.specs.Verdict.{earliest, lateAs, Judged}
 use Rattle.machine.proofs.Judged.{judged-earliest}
 use Rattle.text.specs.Reading.{readTable}
 use Rattle.promises.specs.Judgement.{JudgedReading, JudgementAnswer}
-use Rattle.layout.specs.Layout.{Opened}
+use Rattle.layout.specs.Layout.{Meant}
 use Rattle.table.specs.Opening.{Opens}
 use Rattle.table.specs.declared.Opening.{Opening}
 use Rattle.table.specs.declared.Opening.the-variants as opening
@@ -30,7 +30,7 @@ opens-late F I (refusal y) x h = ap lateAs h
 
 -- The judgement of a table's text, by any reading of it.
 read-judges : (F I T : List ℕ) (a : Reply Table) (j : Judgement) → readTable T ≡ a → Opens F I a opening.Table
-    → ((M : Table) → Opened F I M → Judged M (verdictOf j)) → Judges T F I j
+    → Meant F I (λ M. Judged M (verdictOf j)) → Judges T F I j
 read-judges F I T (given M) j e h k =
     record {
       answer = subst (λ (y : Reply Table). JudgedReading y (verdictOf j)) (sym e) (k M h);
@@ -57,7 +57,7 @@ module _ (F I : List ℕ) {T : List ℕ} {o : Opening} (h : Opens F I (readTable
       }
 
   -- The judgement of a table's text.
-  pub table-judges : {j : Judgement} → o ≡ opening.Table → ((M : Table) → Opened F I M → Judged M (verdictOf j)) → Judges T F I j
+  pub table-judges : {j : Judgement} → o ≡ opening.Table → Meant F I (λ M. Judged M (verdictOf j)) → Judges T F I j
   table-judges {j} e k = read-judges F I T (readTable T) j refl (subst (λ (y : Opening). Opens F I (readTable T) y) e h) k
 
 -- The judgement of a text that is known to be late, or earliest.

@@ -10,7 +10,7 @@ use Rattle.text.specs.Limits.{statesMost}
 use Rattle.trees.specs.Shape.{treeMost}
 use Rattle.trees.proofs.Preorder.{preorder-some}
 use Rattle.trees.proofs.Whole.{read-sound}
-use Rattle.layout.specs.Layout.{ruleLetters, Opened}
+use Rattle.layout.specs.Layout.{ruleLetters, Opened, MeantBy}
 use Rattle.layout.specs.Leaves.{Encodes, Tells, Kept, stateNo}
 use Rattle.walk.specs.Walked.{Wordless}
 use Rattle.walk.specs.Plan.{Names, Counted}
@@ -25,7 +25,7 @@ use Rattle.waiting.proofs.Owed.{Worded, wordless, Owing, owing-first, owing-nex
 -- with `top` places and the number `next` say what waits, which decides the whole and is owed trees by it.
 pub record Measuring (I S P W : List ℕ) (top next sum at : ℕ) : Type 0 where
   pub decides : (F : List ℕ) (M : Table) → Opened F I M → WholeFrom F S P M (M .start) (waits W top next) at sum
-  pub owing : (F : List ℕ) (M : Table) → Opened F I M → Owing S M (M .start) (waits W top next) at
+  pub owing : MeantBy I (λ M. Owing S M (M .start) (waits W top next) at)
   pub passed : at ≤ length S
   pub short : length S ≤ treeMost
   pub long : length S ≤ length P
@@ -35,7 +35,7 @@ pub record Measuring (I S P W : List ℕ) (top next sum at : ℕ) : Type 0 where
 
 -- At first the initial state waits.
 pub measuring-first : (I S P W : List ℕ) (q : ℕ) → length S ≤ treeMost → length S ≤ length P → length W ≡ 208
-    → ((F : List ℕ) (M : Table) → Opened F I M → q ≡ M .start) → Measuring I S P W 1 q 0 0
+    → MeantBy I (λ M. q ≡ M .start) → Measuring I S P W 1 q 0 0
 measuring-first I S P W q s p w e = record {
   decides = λ F M o. subst (λ (k : ℕ). WholeFrom F S P M (M .start) (k ∷ []) 0 0) (sym (e F M o)) (whole-first F S P M (M .start) (low F M o) s);
   owing = λ F M o. subst (λ (k : ℕ). Owing S M (M .start) (k ∷ []) 0) (sym (e F M o)) (owing-first S M (M .start) (low F M o) (o .limited .made .start));
@@ -47,7 +47,7 @@ measuring-first I S P W q s p w e = record {
   room = omega arith;
 }
   where
-    low : (F : List ℕ) (M : Table) → Opened F I M → M .start < statesMost
+    low : MeantBy I (λ M. M .start < statesMost)
     low F M o = omega (arith, o .limited .made .start, o .limited .states)
 
 -- At most 256 letters are counted for each of 32,768 symbols.
@@ -123,7 +123,7 @@ pub record Turned (I W W′ : List ℕ) (x v top y sum sum′ k next : ℕ) : Ty
 
 -- What is kept for the number v and the symbol f, in every table that the lent numbers mean, if v has a state of it.
 abbrev pub KeptAt : List ℕ → ℕ → ℕ → ℕ → Type 0
-KeptAt I v f x = (F : List ℕ) (M : Table) → Opened F I M → v % statesMost < M .states → Kept M (v % statesMost) f x
+KeptAt I v f x = MeantBy I (λ M. v % statesMost < M .states → Kept M (v % statesMost) f x)
 
 module _ {I S P W W′ : List ℕ} {top v sum at : ℕ} (t : Measuring I S P W top v sum at) where
   -- What waits after a turn decides the whole and is owed trees by it, in every table that the lent numbers mean.

@@ -18,7 +18,7 @@ use Rattle.machine.specs.Machine.{Table}
 use Rattle.text.specs.Lines.{bytesOf}
 use Rattle.trees.specs.Shape.{treeMost, depthMost, treeAt, alone, readTree}
 use Rattle.promises.specs.Word.{wordIn, wordOn, wordInto}
-use Rattle.layout.specs.Layout.{Opened}
+use Rattle.layout.specs.Layout.{Meant}
 use Rattle.why_no_word.specs.Answer.{said, Answers}
 use Rattle.why_no_word.specs.declared.WordAnswer.{WordAnswer}
 use Rattle.why_no_word.specs.declared.WordAnswer.the-variants as found
@@ -90,7 +90,7 @@ kept-word M bs T n room k h = go (ltb (length T) (length bs)) refl
 -- A line of hexadecimal under an opened table.
 pub table-answered : (cs T F I O O′ v : List ℕ) (t : Reply Table) (o : Opening) (b : Bool) (m room u : ℕ) (r : Said) → o ≡ opening.Table
     → Opens F I t o → Told (WholeBytes cs T m) b → b ≡ true → treeMost < length T → v ≡ take m T
-    → ((M : Table) → Opened F I M → Responds (wordInto M v room) O u O′ r) → Answered t (bytesOf cs) room O u O′ r
+    → Meant F I (λ M. Responds (wordInto M v room) O u O′ r) → Answered t (bytesOf cs) room O u O′ r
 table-answered cs T F I O O′ v t o b m room u r i s told e h d f = go t (subst (Opens F I t) i s) (told .if-true e)
   where
     go : (t : Reply Table) → Opens F I t opening.Table → WholeBytes cs T m → Answered t (bytesOf cs) room O u O′ r

@@ -11,7 +11,7 @@ use Rattle.text.specs.Limits.{statesMost}
 use Rattle.end_laws.specs.Ends.{Side, left, right}
 use Rattle.end_laws.specs.Meaning.{Witnessed}
 use Rattle.end_laws.specs.Companion.{judgeBy}
-use Rattle.layout.specs.Layout.{Opened}
+use Rattle.layout.specs.Layout.{Opened, Meant, MeantBy}
 use Rattle.visit.specs.Reaches.{Reaches}
 use Rattle.summary.specs.Codes.{K}
 use Rattle.empty_words.specs.Blank.{Blanks, EmptyTold, AllListed}
@@ -30,12 +30,12 @@ begun-zeros q = elim (decLt q statesMost) [
 -- What the code has in the end: the marks m, the first n states of O, the states zs with the empty word, the summaries xs at the left and ys at the right,
 -- and the verdict v by the checks.
 pub record Done (F I m O : List ℕ) (n : ℕ) (zs xs ys : List ℕ) (v : Verdict) : Type 0 where
-  pub reaches : (G : List ℕ) (M : Table) → Opened G I M → Reaches M m O n
-  pub blanks : (G : List ℕ) (M : Table) → Opened G I M → Blanks M zs
-  pub empties : (G : List ℕ) (M : Table) → Opened G I M → AllListed M O n → EmptyTold M (K zs)
+  pub reaches : MeantBy I (λ M. Reaches M m O n)
+  pub blanks : MeantBy I (λ M. Blanks M zs)
+  pub empties : MeantBy I (λ M. AllListed M O n → EmptyTold M (K zs))
   pub lefts : Settles F I O n left zs xs
   pub rights : Settles F I O n right zs ys
-  pub verdict : (M : Table) → Opened F I M → v ≡ judgeBy (allChecks M m xs ys)
+  pub verdict : Meant F I (λ M. v ≡ judgeBy (allChecks M m xs ys))
 
 module _ {F I m O : List ℕ} {n : ℕ} {zs xs ys : List ℕ} {v : Verdict} (d : Done F I m O n zs xs ys v) (M : Table) (o : Opened F I M) where
   -- The states that are reached are marked and listed.

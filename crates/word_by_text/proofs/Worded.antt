@@ -10,7 +10,7 @@ use Rattle.machine.specs.Machine.{Table}
 use Rattle.text.specs.Reading.{readTable}
 use Rattle.promises.specs.Room.{into}
 use Rattle.promises.specs.Word.{wordOn, wordInto, wordAnswer}
-use Rattle.layout.specs.Layout.{Opened}
+use Rattle.layout.specs.Layout.{Opened, Meant}
 use Rattle.table.specs.Opening.{Opens}
 use Rattle.table.specs.declared.Opening.{Opening}
 use Rattle.table.specs.declared.Opening.the-variants as opening
@@ -39,7 +39,7 @@ module _ (F I text tree : List ℕ) {R : List ℕ} {o : Opening} (h : Opens F I 
       refused-said R (x .number) (x .place) (ap (λ (a : Reply Table). into (length R) (a then λ M. wordOn M tree)) n) (er ∙ ap refusalOf e)
 
   -- A text that is a table gives the word by the opened table.
-  pub table-answers : {R′ : List ℕ} → o ≡ opening.Table → ((M : Table) → Opened F I M → Answers (wordInto M tree (length R)) R R′ r)
+  pub table-answers : {R′ : List ℕ} → o ≡ opening.Table → Meant F I (λ M. Answers (wordInto M tree (length R)) R R′ r)
       → Answers (wordAnswer text tree (length R)) R R′ r
   unfolding wordAnswer wordInto
   table-answers {R′} e found =

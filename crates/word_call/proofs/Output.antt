@@ -12,7 +12,7 @@ use Rattle.trees.specs.Shape.{treeMost, depthMost}
 use Rattle.trees.proofs.Whole.{read-complete}
 use Rattle.promises.specs.Room.{into}
 use Rattle.promises.specs.Word.{wordOn, wordInto}
-use Rattle.layout.specs.Layout.{Opened}
+use Rattle.layout.specs.Layout.{Opened, Meant}
 use Rattle.words.specs.declared.No.{No}
 use Rattle.walk.specs.Walked.{Wordless}
 use Rattle.walk.specs.Plan.{Counted}
@@ -109,7 +109,7 @@ measured-few r letters h e = rw e at h
 
 -- What a measure that did not count says: why there is no word is the answer.
 pub measured-other : {F I : List ℕ} (S P : List ℕ) {M : Table} (r : TreeMeasure) {why : No} (R : List ℕ) → MeasureOf F S P M (M .start) r
-    → r ≡ measured.Other → Opened F I M → ((M : Table) → Opened F I M → Wordless M S (M .start) → wordOn M S ≡ refused (why .number) (why .place))
+    → r ≡ measured.Other → Opened F I M → Meant F I (λ M. Wordless M S (M .start) → wordOn M S ≡ refused (why .number) (why .place))
     → Answers (wordInto M S (length R)) R R (found.Refused why)
 measured-other {F} {I} S P {M} r {why} R h e o told =
     let n = subst (λ (x : TreeMeasure). MeasureOf F S P M (M .start) x) e h in

@@ -5,7 +5,7 @@ use native.Mathlib.Omega.{arith}
 use lib.ListN.{length, getD, length-set}
 use Rattle.machine.specs.Machine.{Table}
 use Rattle.text.specs.Limits.{statesMost}
-use Rattle.layout.specs.Layout.{Opened}
+use Rattle.layout.specs.Layout.{Meant}
 use Rattle.class_round.specs.Round.{RoundBegun, Paired, LeastOf, NumbersRaised, Rounded}
 use Rattle.class_round.proofs.Pairs.{picked-least}
 use Rattle.class_round.proofs.Stores.{set-below}
@@ -16,7 +16,7 @@ use Rattle.class_round.proofs.round.Tie as tie
 abbrev Inv-loop : tie.InvT-loop
 Inv-loop first frames numbers n rep next₀ q₀ next q =
     (q ≤ n) × (length next ≡ statesMost) × NumbersRaised q rep next
-    × ((M : Table) → Opened frames numbers M → n ≡ M .states → RoundBegun first M n rep → Rounded M q rep next)
+    × Meant frames numbers (λ M. n ≡ M .states → RoundBegun first M n rep → Rounded M q rep next)
 
 abbrev μ-loop : tie.MeasureT-loop
 μ-loop first frames numbers n rep next₀ q₀ next q = n - q

@@ -5,7 +5,7 @@ use native.Mathlib.Omega.{arith}
 use lib.ListN.{length}
 use Rattle.machine.specs.Machine.{Table}
 use Rattle.text.specs.Limits.{statesMost}
-use Rattle.layout.specs.Layout.{Opened}
+use Rattle.layout.specs.Layout.{Meant}
 use Rattle.class_round.specs.Round.{RoundBegun, Low}
 use Rattle.classes.specs.Taking.{slack}
 use Rattle.classes.proofs.Slack.{adopted-low, numbered}
@@ -16,8 +16,8 @@ use Rattle.classes.proofs.rounds.Tie as tie
 
 abbrev Inv-loop : tie.InvT-loop
 Inv-loop frames numbers n rep₀ next₀ first₀ rep next first =
-    (length next ≡ statesMost) × (length rep ≡ statesMost) × Low rep × ((M : Table) → Opened frames numbers M → n ≡ M .states → Together M rep)
-    × ((M : Table) → Opened frames numbers M → n ≡ M .states → RoundBegun first M n rep)
+    (length next ≡ statesMost) × (length rep ≡ statesMost) × Low rep × Meant frames numbers (λ M. n ≡ M .states → Together M rep)
+    × Meant frames numbers (λ M. n ≡ M .states → RoundBegun first M n rep)
 
 abbrev μ-loop : tie.MeasureT-loop
 μ-loop frames numbers n rep₀ next₀ first₀ rep next first = slack rep

@@ -7,7 +7,7 @@ use lib.ListN.{length}
 use Rattle.machine.specs.Machine.{Table}
 use Rattle.text.specs.Limits.{statesMost}
 use Rattle.end_laws.specs.Ends.{ranks}
-use Rattle.layout.specs.Layout.{Opened}
+use Rattle.layout.specs.Layout.{MeantBy}
 use Rattle.summary.specs.Codes.{summaries}
 use Rattle.summary.proofs.Growing.{grown-less}
 use Rattle.empty_words.specs.Blank.{Blanks}
@@ -18,7 +18,7 @@ use Rattle.empty_words.proofs.blanks.Tie as tie
 
 abbrev Inv-loop : tie.InvT-loop
 Inv-loop numbers order n values₀ values =
-    (length values ≡ statesMost) × ((F : List ℕ) (M : Table) → Opened F numbers M → Blanks M values)
+    (length values ≡ statesMost) × MeantBy numbers (λ M. Blanks M values)
 
 abbrev μ-loop : tie.MeasureT-loop
 μ-loop numbers order n values₀ values =

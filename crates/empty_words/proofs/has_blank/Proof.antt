@@ -6,7 +6,7 @@ use Prim.Native.Nat.{ℕ, _-_, _≤_}
 use Rattle.words.proofs.Told.{told-yes, told-no}
 use Rattle.machine.specs.Machine.{Table}
 use Rattle.text.specs.Limits.{rowsMost}
-use Rattle.layout.specs.Layout.{Opened}
+use Rattle.layout.specs.Layout.{MeantBy}
 use Rattle.layout.specs.Leaves.{RulesOf}
 use Rattle.empty_words.proofs.Rules.{NoneBefore, none-more, one-found, none-found}
 use Rattle.empty_words.proofs.has_blank.Statement.{statement}
@@ -14,7 +14,7 @@ use Rattle.empty_words.proofs.has_blank.Tie as tie
 
 abbrev Inv-loop : tie.InvT-loop
 Inv-loop numbers q values to i₀ i =
-    (i₀ ≤ i) × (to ≤ rowsMost) × ((F : List ℕ) (M : Table) → Opened F numbers M → RulesOf M q i₀ to × NoneBefore M values i₀ i)
+    (i₀ ≤ i) × (to ≤ rowsMost) × MeantBy numbers (λ M. RulesOf M q i₀ to × NoneBefore M values i₀ i)
 
 abbrev μ-loop : tie.MeasureT-loop
 μ-loop numbers q values to i₀ i =

@@ -7,7 +7,7 @@ use Rattle.machine.specs.Machine.{Table}
 use Rattle.text.specs.Limits.{statesMost}
 use Rattle.end_laws.specs.Ends.{ranks}
 use Rattle.end_laws.specs.Meaning.{Witnessed}
-use Rattle.layout.specs.Layout.{Opened}
+use Rattle.layout.specs.Layout.{Meant}
 use Rattle.summary.specs.Codes.{sideOf, K, summaries}
 use Rattle.summary.proofs.Growing.{grown-less}
 use Rattle.empty_words.specs.Blank.{EmptyTold}
@@ -18,8 +18,8 @@ use Rattle.end_summaries.proofs.settle.Tie as tie
 abbrev Inv-loop : tie.InvT-loop
 Inv-loop frames numbers order n side values₀ values =
     (length values ≡ statesMost)
-    × ((M : Table) → Opened frames numbers M
-    → (Witnessed M (sideOf side) (K values₀) → Witnessed M (sideOf side) (K values)) × (EmptyTold M (K values₀) → EmptyTold M (K values)))
+    × Meant frames numbers (λ M. (Witnessed M (sideOf side) (K values₀) → Witnessed M (sideOf side) (K values))
+    × (EmptyTold M (K values₀) → EmptyTold M (K values)))
 
 abbrev μ-loop : tie.MeasureT-loop
 μ-loop frames numbers order n side values₀ values =

@@ -6,7 +6,7 @@ use lib.ListN.{length}
 use Rattle.machine.specs.Machine.{Table}
 use Rattle.machine.proofs.Find.{index-row}
 use Rattle.text.specs.Limits.{rowsMost}
-use Rattle.layout.specs.Layout.{Opened}
+use Rattle.layout.specs.Layout.{Meant}
 use Rattle.digits.specs.Room.{Wrote}
 use Rattle.digits.proofs.Room.{wrote-none, wrote-then, wrote-as}
 use Rattle.form_rows.proofs.Ranges.{rangeLines, range-none, range-more, range-all}
@@ -18,7 +18,7 @@ use Rattle.form_rows.proofs.put_rules.Tie as tie
 abbrev Inv-loop : tie.InvT-loop
 Inv-loop frames numbers q n names room₀ at own i₀ end₀ room i end =
     (i ≤ rowsMost) × (end ≤ at + 547 * i) × (length room ≡ length room₀)
-    × ((M : Table) → Opened frames numbers M → (own .from ≤ i) × (i ≤ own .to) × Wrote room₀ at (rangeLines (named names) n (M .rows) (own .from) i) room end)
+    × Meant frames numbers (λ M. (own .from ≤ i) × (i ≤ own .to) × Wrote room₀ at (rangeLines (named names) n (M .rows) (own .from) i) room end)
 
 abbrev μ-loop : tie.MeasureT-loop
 μ-loop frames numbers q n names room₀ at own i₀ end₀ room i end = own .to - i

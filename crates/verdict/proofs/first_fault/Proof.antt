@@ -5,7 +5,7 @@ use mathlib.Core.Path.{_≡_, _∙_}
 use Prim.Native.Nat.{_-_, _≤_}
 use Rattle.machine.specs.Machine.{Table}
 use Rattle.end_laws.specs.Companion.{judgeBy}
-use Rattle.layout.specs.Layout.{Opened}
+use Rattle.layout.specs.Layout.{Meant}
 use Rattle.checks.specs.Checks.{allChecks}
 use Rattle.verdict.proofs.Order.{upTo, from-first, judge-found, judge-next, judge-end}
 use Rattle.verdict.proofs.first_fault.Statement.{statement}
@@ -14,7 +14,7 @@ use Rattle.verdict.proofs.first_fault.Tie as tie
 abbrev Inv-loop : tie.InvT-loop
 Inv-loop frames numbers marks left right number₀ number =
     (13 ≤ number) × (number ≤ 19)
-    × ((M : Table) → Opened frames numbers M → judgeBy (upTo M marks left right number) ≡ judgeBy (allChecks M marks left right))
+    × Meant frames numbers (λ M. judgeBy (upTo M marks left right number) ≡ judgeBy (allChecks M marks left right))
 
 abbrev μ-loop : tie.MeasureT-loop
 μ-loop frames numbers marks left right number₀ number =

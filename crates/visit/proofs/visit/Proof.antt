@@ -7,7 +7,7 @@ use lib.ListN.{length}
 use borrow.Author.Needs.{needs}
 use Rattle.machine.specs.Machine.{Table}
 use Rattle.text.specs.Limits.{statesMost}
-use Rattle.layout.specs.Layout.{Opened}
+use Rattle.layout.specs.Layout.{MeantBy}
 use Rattle.visit_queue.specs.Queue.{queueOf}
 use Rattle.visit.proofs.Visits.{Under, under-start, under-next, under-done}
 use Rattle.visit.proofs.visit.Statement.{statement}
@@ -16,7 +16,7 @@ use Rattle.visit.proofs.visit.Tie as tie
 abbrev Inv-loop : tie.InvT-loop
 Inv-loop numbers rep order₀ known₀ first n₀ i₀ order known n i =
     (i ≤ statesMost) × (n ≤ statesMost) × (length order ≡ length order₀) × (length known ≡ length known₀)
-    × ((F : List ℕ) (M : Table) → Opened F numbers M → Under rep M (queueOf order₀ known₀ n₀) 0 → Under rep M (queueOf order known n) i)
+    × MeantBy numbers (λ M. Under rep M (queueOf order₀ known₀ n₀) 0 → Under rep M (queueOf order known n) i)
 
 abbrev μ-loop : tie.MeasureT-loop
 μ-loop numbers rep order₀ known₀ first n₀ i₀ order known n i = statesMost - i

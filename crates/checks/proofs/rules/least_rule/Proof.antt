@@ -8,7 +8,7 @@ use lib.ListN.{length, getElem?}
 use Rattle.machine.specs.Machine.{Table}
 use Rattle.text.specs.Limits.{rowsMost}
 use Rattle.end_laws.specs.Companion.{least}
-use Rattle.layout.specs.Layout.{Opened}
+use Rattle.layout.specs.Layout.{Meant}
 use Rattle.summary.specs.Codes.{K}
 use Rattle.checks.proofs.Tests.{least-on, least-here, least-end}
 use Rattle.checks.proofs.Rows.{freeAt, row-test}
@@ -19,7 +19,7 @@ use Rattle.checks.proofs.rules.least_rule.Tie as tie
 abbrev Inv-loop : tie.InvT-loop
 Inv-loop frames numbers left count i₀ i =
     (i ≤ count) × (count ≤ rowsMost)
-    × ((M : Table) → Opened frames numbers M → (count ≡ length (M .rows)) × (least (freeAt M left) (count - i) i ≡ least (freeAt M left) count 0))
+    × Meant frames numbers (λ M. (count ≡ length (M .rows)) × (least (freeAt M left) (count - i) i ≡ least (freeAt M left) count 0))
 
 abbrev μ-loop : tie.MeasureT-loop
 μ-loop frames numbers left count i₀ i =

@@ -5,7 +5,7 @@ use mathlib.Core.Path.{_∙_}
 use Prim.Native.Nat.{_≤_}
 use Rattle.machine.specs.Machine.{Table}
 use Rattle.text.specs.Limits.{rowsMost}
-use Rattle.layout.specs.Layout.{Opened}
+use Rattle.layout.specs.Layout.{Meant}
 use Rattle.layout.specs.Leaves.{RulesOf}
 use Rattle.rule_leaves.proofs.Numbered.{row-state-small}
 use Rattle.summary.specs.Codes.{sideOf}
@@ -19,7 +19,7 @@ use Rattle.end_summaries.proofs.adding.add_state.Tie as tie
 abbrev Inv-loop : tie.InvT-loop
 Inv-loop frames numbers q side values₀ from i₀ k₀ values i k =
     (i ≤ rowsMost) × (i ≤ i₀) × Grown values₀ values k
-    × ((M : Table) → Opened frames numbers M → RulesOf M q from i₀ × Tried M (sideOf side) (RulesBetween i i₀) values₀ values k)
+    × Meant frames numbers (λ M. RulesOf M q from i₀ × Tried M (sideOf side) (RulesBetween i i₀) values₀ values k)
 
 abbrev μ-loop : tie.MeasureT-loop
 μ-loop frames numbers q side values₀ from i₀ k₀ values i k =

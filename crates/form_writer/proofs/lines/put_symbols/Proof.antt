@@ -6,7 +6,7 @@ use lib.ListN.{length, getD, take}
 use lib.Seq.{take-all}
 use Rattle.machine.specs.Machine.{Table}
 use Rattle.text.specs.Writing.{symbolLines}
-use Rattle.layout.specs.Layout.{Opened}
+use Rattle.layout.specs.Layout.{Meant}
 use Rattle.digits.specs.Room.{Wrote}
 use Rattle.digits.proofs.Room.{wrote-none, wrote-then, wrote-as}
 use Rattle.form_writer.proofs.Text.{symbol-line, symbols-more}
@@ -16,7 +16,7 @@ use Rattle.form_writer.proofs.lines.put_symbols.Tie as tie
 
 abbrev Inv-loop : tie.InvT-loop
 Inv-loop frames numbers room₀ at n k₀ end₀ room k end =
-    (k ≤ n) × (end ≡ at + 5 * k) × (length room ≡ length room₀) × ((M : Table) → Opened frames numbers M → Wrote room₀ at
+    (k ≤ n) × (end ≡ at + 5 * k) × (length room ≡ length room₀) × Meant frames numbers (λ M. Wrote room₀ at
     (symbolLines (take k (M .arities))) room end)
 
 abbrev μ-loop : tie.MeasureT-loop
