@@ -183,7 +183,8 @@ pub fn earliest_over(rng: &mut Rng, arities: &[u8], states: usize) -> Table {
 fn earliest_by(rng: &mut Rng, mut stock: Stock) -> Table {
     loop {
         let table = earliest_from(rng, &stock);
-        if table::write(&table).len() <= MAX_TEXT - ROOM_FOR_CHANGES {
+        let short = table::write(&table).len() <= MAX_TEXT - ROOM_FOR_CHANGES;
+        if short && table.rules.len() <= MAX_RULES {
             return table;
         }
         stock.longest_word /= 2;
