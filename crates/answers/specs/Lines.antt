@@ -23,3 +23,7 @@ lettersText (x ∷ w) = 0x20 ∷ [] ++ hexOf (x ∷ w)
 abbrev pub wordLine : ℕ → List ℕ → List ℕ
 wordLine terms w =
     0x77 ∷ 0x6f ∷ 0x72 ∷ 0x64 ∷ 0x20 ∷ [] ++ decimal (length w) ++ 0x20 ∷ [] ++ decimal terms ++ lettersText w ++ 0x0a ∷ []
+
+-- Bytes: the name of what they are, a blank, their digits, and a line feed.
+abbrev pub bytesLine : List ℕ → List ℕ → List ℕ
+bytesLine name bs = name ++ 0x20 ∷ [] ++ hexOf bs ++ 0x0a ∷ []

@@ -4,7 +4,7 @@ use output::put_all;
 use output::put_hex;
 use output::put_number;
 ghost use Rattle.output.specs.Queue.{Queued};
-ghost use Rattle.answers.specs.Lines.{noLine, lettersText, wordLine};
+ghost use Rattle.answers.specs.Lines.{noLine, lettersText, wordLine, bytesLine};
 
 // Puts a refusal: "no", the numbers that tell it, each behind a blank, and a line feed.
 pub fn put_no(numbers: &[u64], out: &mut [u8], used: usize) -> usize
@@ -40,5 +40,15 @@ pub fn put_word(terms: usize, letters: &[u8], out: &mut [u8], used: usize) -> us
     let at = put(b' ', out, at);
     let at = put_number(terms as u64, out, at);
     let at = put_letters(letters, out, at);
+    put(b'\n', out, at)
+}
+
+// Puts bytes behind what they are: its name, a blank, their digits, and a line feed.
+pub fn put_bytes(name: &[u8], bytes: &[u8], out: &mut [u8], used: usize) -> usize
+    ensures { λ r. ⌜ Queued (bytesLine (now (name .entry)) (now (bytes .entry))) (now (out .entry)) used (now (out .exit)) r ⌝ }
+{
+    let at = put_all(name, out, used);
+    let at = put(b' ', out, at);
+    let at = put_hex(bytes, out, at);
     put(b'\n', out, at)
 }

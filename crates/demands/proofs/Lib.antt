@@ -26,6 +26,19 @@
 --    A form is given if it has room, and 12 comes last: crate promises, Form.form-given, Form.form-refused.
 --    The comparison's refusals in their order: crate promises, Comparison.first-late, Comparison.second-late, Comparison.lists-part.
 --    Behind these: Theorem A in crate machine, Agreement.agree; the form as mathematics in crate form_laws, Forms.forms-agree.
+--
+-- W1. Records from the ingest desks. What is asked stands in crate records, specs; what each call answers in crate promises, specs/Records.
+--    Reading a stream and writing it give each other: crate records, Sound.read-sound, Complete.read-back. A stream is refused with 21, 22
+--    or 23 exactly for its cause: crate records, Refusals.read-refused; a symbol list with 20 at its first wrong index: Symbols.last-refused.
+--    The preorder of an image is the stream with each ff replaced by the last symbol, and one more: crate records, Image.image-preorder.
+--    The image is one-to-one: crate records, Back.image-injective. 24 is told exactly for trees that are no record's image:
+--    Records.twenty-four; its place: crate records, Back.back-refused.
+--    What the tree call writes the record call turns back into the same bytes, and the other way round: Records.tree-turned-back,
+--    Records.record-turned-back. The tree is given exactly for images within the limits: Records.record-tree-given.
+--    The word of a record is the table's word on its image, refusals included, so demand 2 speaks of it: Records.record-word; what is sent
+--    wrong is refused for that: Records.record-wrong; every stream is one or the other: Records.sent-or-wrong.
+--    7, 8 and 11 cannot come: Records.record-word-numbers, Records.record-tree-numbers. Demand 3 is untouched.
 pub mod Words
 pub mod Settled
 pub mod Forms
+pub mod Records

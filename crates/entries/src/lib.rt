@@ -2,6 +2,7 @@
 // into one array, every entry of which is written.
 use comparison::Compared;
 use form_call::Formed;
+use spelling::Spelled;
 use table::Opening;
 use verdict::Judgement;
 use why_no_word::WordAnswer;
@@ -10,6 +11,7 @@ ghost use mathlib.Core.Path.{_≡_};
 ghost use Rattle.verdict.specs.Judgement.{verdictOf};
 ghost use Rattle.why_no_word.specs.Answer as word;
 ghost use Rattle.form_call.specs.Formed as form;
+ghost use Rattle.spelling.specs.Spells.{spelledTold};
 ghost use Rattle.comparison.specs.Answers.{comparisonOf};
 ghost use Rattle.entries.specs.Entries.{eight, blank, noEntries, numberOf, entriesOf, lettersEntries, lengthEntries, replied};
 ghost use Rattle.entries.specs.Entries.{verdictNumber, verdictEntries, comparisonNumber, comparisonEntries};
@@ -31,6 +33,15 @@ fn tell_no(refusal: No, table: usize, answer: &mut [usize; ANSWER]) -> u8
 {
     *answer = entries(refusal.place, 0, 0, 0, table);
     refusal.number
+}
+
+// Tells a yes that holds a length alone: 0, and the length.
+fn tell_length(length: usize, answer: &mut [usize; ANSWER]) -> u8
+    ensures { λ r. ⌜ r ≡ 0 ⌝ }
+    ensures { λ _. ⌜ now (answer .exit) ≡ lengthEntries length ⌝ }
+{
+    *answer = entries(0, length, 0, 0, 0);
+    0
 }
 
 // Tells a word's length and terms, or the no.
@@ -67,11 +78,19 @@ pub fn tell_form(formed: Formed, answer: &mut [usize; ANSWER]) -> u8
     ensures { λ _. ⌜ now (answer .exit) ≡ entriesOf lengthEntries (form.said formed) ⌝ }
 {
     match formed {
-        Formed::Form(length) => {
-            *answer = entries(0, length, 0, 0, 0);
-            0
-        }
+        Formed::Form(length) => tell_length(length, answer),
         Formed::Refused(refusal) => tell_no(refusal, 0, answer),
+    }
+}
+
+// Tells how many bytes a call wrote to the front of the room, or the no.
+pub fn tell_spelled(spelled: Spelled, answer: &mut [usize; ANSWER]) -> u8
+    ensures { λ r. ⌜ r ≡ numberOf (spelledTold spelled) ⌝ }
+    ensures { λ _. ⌜ now (answer .exit) ≡ entriesOf lengthEntries (spelledTold spelled) ⌝ }
+{
+    match spelled {
+        Spelled::Bytes(length) => tell_length(length, answer),
+        Spelled::Refused(refusal) => tell_no(refusal, 0, answer),
     }
 }
 

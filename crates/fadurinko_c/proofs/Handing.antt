@@ -12,10 +12,12 @@ use Rattle.table.specs.declared.Opening.{Opening}
 use Rattle.table.specs.declared.Opening.the-variants as opening
 use Rattle.why_no_word.specs.declared.WordAnswer.{WordAnswer}
 use Rattle.why_no_word.specs.Answer as word
+use Rattle.spelling.specs.declared.Spelled.{Spelled}
+use Rattle.spelling.specs.Spells.{Spells, spelledTold}
 use Rattle.form_call.specs.declared.Formed.{Formed}
 use Rattle.form_call.specs.Formed as form
 use Rattle.entries.specs.Entries.{blank, noEntries, numberOf, entriesOf, lettersEntries, lengthEntries, replied}
-use Rattle.fadurinko_c.specs.Linked.{WordLinked, FormLinked, OpenLinked}
+use Rattle.fadurinko_c.specs.Linked.{WordLinked, SpelledLinked, FormLinked, OpenLinked}
 
 -- Number and entries stay where a yes gets another value.
 number-mapped : {A B : Type 0} (f : A → B) (a : Reply A) → numberOf (mapped f a) ≡ numberOf a
@@ -33,6 +35,16 @@ word-linked {a} h en ee =
     record {
       told = en ∙ ap numberOf (h .answer) ∙ number-mapped lettersOf a;
       all = ee ∙ ap (entriesOf lettersEntries) (h .answer) ∙ entries-mapped lettersOf lettersEntries a;
+      room = h .room;
+    }
+
+-- The tree call and the record call hand out what their definitions answer.
+pub spelled-linked : {a : Reply (List ℕ)} {R R′ E : List ℕ} {r : Spelled} {n : ℕ} → Spells a R R′ r → n ≡ numberOf (spelledTold r)
+    → E ≡ entriesOf lengthEntries (spelledTold r) → SpelledLinked a R R′ n E
+spelled-linked {a} h en ee =
+    record {
+      told = en ∙ ap numberOf (h .answer) ∙ number-mapped length a;
+      all = ee ∙ ap (entriesOf lengthEntries) (h .answer) ∙ entries-mapped length lengthEntries a;
       room = h .room;
     }
 

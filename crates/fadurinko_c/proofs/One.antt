@@ -1,8 +1,9 @@
--- Two results that a linked call allows for one input are equal. The word calls are settled by equations. Assumes nothing.
+-- Two results that a linked call allows for one input are equal. Assumes nothing.
 use mathlib.Core.Path.{_≡_, sym, ap, _∙_}
 use mathlib.Core.List.{List}
 use Prim.Native.Nat.{ℕ}
 use lib.ListN.{length}
+use Rattle.words.specs.Word.{Word}
 use Rattle.words.specs.Reply.{Reply, given, refusal}
 use Rattle.machine.specs.Machine.{Table}
 use Rattle.machine.specs.Verdict.{Verdict, Judged}
@@ -14,7 +15,16 @@ use Rattle.table.specs.declared.Opening.the-variants as opening
 use Rattle.table.proofs.One.{open-one}
 use Rattle.demands.proofs.Settled.{form-one, comparison-one}
 use Rattle.entries.specs.Entries.{numberOf, verdictNumber, verdictEntries, comparisonNumber, comparisonEntries}
-use Rattle.fadurinko_c.specs.Linked.{Lent, JudgedLinked, OpenLinked, FormLinked, ComparedLinked, formEntries}
+use Rattle.fadurinko_c.specs.Linked.{Lent, WordLinked, SpelledLinked, JudgedLinked, OpenLinked, FormLinked, ComparedLinked, formEntries}
+
+-- The calls that give a word, on trees and on records, and those that give the tree of a record or the record of a tree.
+pub word-linked-one : (a : Reply Word) (R R₁ R₂ : List ℕ) (n m : ℕ) (D E : List ℕ) → WordLinked a R R₁ n D → WordLinked a R R₂ m E
+    → (n ≡ m) × (D ≡ E) × (R₁ ≡ R₂)
+word-linked-one a R R₁ R₂ n m D E h k = (h .told ∙ sym (k .told), h .all ∙ sym (k .all), h .room ∙ sym (k .room))
+
+pub spelled-linked-one : (a : Reply (List ℕ)) (R R₁ R₂ : List ℕ) (n m : ℕ) (D E : List ℕ) → SpelledLinked a R R₁ n D → SpelledLinked a R R₂ m E
+    → (n ≡ m) × (D ≡ E) × (R₁ ≡ R₂)
+spelled-linked-one a R R₁ R₂ n m D E h k = (h .told ∙ sym (k .told), h .all ∙ sym (k .all), h .room ∙ sym (k .room))
 
 -- What was lent is the same after two openings that answer alike.
 lent-one : (a : Reply Table) (F I F₁ I₁ F₂ I₂ : List ℕ) → Lent F I F₁ I₁ a → Lent F I F₂ I₂ a → (F₁ ≡ F₂) × (I₁ ≡ I₂)

@@ -1,31 +1,39 @@
 -- The number 0 is told for a yes only: no refusal has it. Assumes nothing.
 use mathlib.Core.Path.{_≡_, refl, sym, subst}
-use mathlib.Core.Bool.{Bool, true, false}
+use mathlib.Core.Bool.{Bool, true, false, not}
 use mathlib.Core.List.{List, [], _∷_}
 use mathlib.Core.Logic.{_⊎_, inl, inr}
 use mathlib.Core.Option.{Option, none, some}
 use Prim.Native.Nat.{ℕ, zero, suc, _≤_}
 use native.Mathlib.Omega.{arith}
-use lib.Dec.{ltb}
+use lib.Dec.{eqb, ltb}
 use lib.ListN.{length}
 use Rattle.words.specs.Word.{Word}
 use Rattle.words.specs.declared.No.{No}
 use Rattle.words.specs.Reply.{Reply, given, refusal, _then_, refuse-if}
-use Rattle.machine.specs.Machine.{Table, output}
+use Rattle.machine.specs.Machine.{Tree, Forest, node, ∅, _▸_, Table, output}
 use Rattle.machine.specs.Verdict.{Condition, conditions, Verdict, earliest, lateAs, JudgedBy, Judged}
 use Rattle.text.specs.Reading.{readTable}
 use Rattle.text.proofs.Refusals as text
+use Rattle.trees.specs.Preorder.{preorder}
 use Rattle.trees.specs.Shape.{readTree}
 use Rattle.trees.specs.Lacking.{lacks}
 use Rattle.trees.proofs.Refusals as trees
+use Rattle.records.specs.Records.{Element, bytesOf, image}
+use Rattle.records.specs.Stream.{readRecord}
+use Rattle.records.specs.Symbols.{lastFrom, lastSymbol}
+use Rattle.records.specs.Back.{backIn, back}
+use Rattle.records.specs.Calls.{spelled, treeOf, recordOf}
+use Rattle.records.proofs.Sound.{ReadTold, read-told}
 use Rattle.promises.specs.Room.{into}
 use Rattle.promises.specs.Word.{wordOr, wordIn, wordOn, wordInto, wordAnswer}
+use Rattle.promises.specs.Records.{wordOfRecord, treeOfRecord, recordOfTree, onTable, onText}
 use Rattle.promises.specs.Judgement.{JudgedReading, JudgementAnswer}
 use Rattle.promises.specs.Form.{FormText, FormAnswer}
 use Rattle.promises.specs.Comparison as paper
 use Rattle.promises.specs.Comparison.{Comparison, ComparisonAnswer}
 use Rattle.entries.specs.Entries.{numberOf, verdictNumber, comparisonNumber}
-use Rattle.fadurinko_c.specs.Linked.{WordLinked, FormLinked, JudgedLinked, ComparedLinked, OpenLinked}
+use Rattle.fadurinko_c.specs.Linked.{WordLinked, SpelledLinked, FormLinked, JudgedLinked, ComparedLinked, OpenLinked}
 
 -- ---- refusals have a number
 
@@ -79,6 +87,63 @@ word-numbered text tree room =
     into-numbered room (readTable text then λ M. wordOn M tree)
     (then-numbered (readTable text) (λ M. wordOn M tree) (text-numbered text) (λ M. on-numbered M tree))
 
+-- A symbol list for records, a stream, and a tree's record have such answers.
+last-numbered : (ks : List ℕ) (i : ℕ) → NoHasNumber (lastFrom i ks)
+unfolding lastFrom
+last-numbered [] i = omega arith
+last-numbered (k ∷ []) i = if-numbered (not (eqb k 0)) 20 i (given i) (omega arith) tt
+last-numbered (k ∷ l ∷ ks) i = if-numbered (not (eqb k 2)) 20 i (lastFrom (suc i) (l ∷ ks)) (omega arith) (last-numbered (l ∷ ks) (suc i))
+
+symbols-numbered : (ar : List ℕ) → NoHasNumber (lastSymbol ar)
+unfolding lastSymbol
+symbols-numbered ar = last-numbered ar 0
+
+stream-numbered : (a : ℕ) (s : List ℕ) → NoHasNumber (readRecord a s)
+stream-numbered a s = go (readRecord a s) (read-told a s)
+  where
+    go : (r : Reply Element) → ReadTold 0 (length s) r → NoHasNumber r
+    go (given r) h = tt
+    go (refusal x) h = omega (arith, h .0)
+
+back-numbered : (a : ℕ) (t : Tree) → NoHasNumber (back a t)
+back-numbered a (node f ts) = go ts
+  where
+    go : (ts : Forest) → NoHasNumber (backIn a f ts)
+    go ∅ = omega arith
+    go (t ▸ ∅) = omega arith
+    go (t ▸ node g us ▸ ts) = if-numbered (not (eqb g a)) 24 (suc (length (preorder t))) _ (omega arith) tt
+
+spelled-numbered : (ar s : List ℕ) → NoHasNumber (spelled ar s)
+unfolding spelled
+spelled-numbered ar s =
+    then-numbered (lastSymbol ar) _ (symbols-numbered ar)
+    (λ a. then-numbered (readRecord a s) (λ r. given (preorder (image a r))) (stream-numbered a s) (λ r. tt))
+
+-- So have the calls on records,
+word-of-numbered : (M : Table) (s : List ℕ) → NoHasNumber (wordOfRecord M s)
+unfolding wordOfRecord
+word-of-numbered M s = then-numbered (spelled (M .arities) s) (wordOn M) (spelled-numbered (M .arities) s) (on-numbered M)
+
+tree-of-numbered : (M : Table) (s : List ℕ) → NoHasNumber (treeOfRecord M s)
+unfolding treeOfRecord treeOf
+tree-of-numbered M s =
+    then-numbered (spelled (M .arities) s) _ (spelled-numbered (M .arities) s)
+    (λ bs. then-numbered (readTree (M .arities) bs) (λ t. given bs) (tree-numbered (M .arities) bs) (λ t. tt))
+
+record-of-numbered : (M : Table) (bs : List ℕ) → NoHasNumber (recordOfTree M bs)
+unfolding recordOfTree recordOf
+record-of-numbered M bs =
+    then-numbered (lastSymbol (M .arities)) _ (symbols-numbered (M .arities))
+    (λ a. then-numbered (readTree (M .arities) bs then back a) (λ r. given (bytesOf r))
+    (then-numbered (readTree (M .arities) bs) (back a) (tree-numbered (M .arities) bs) (back-numbered a)) (λ r. tt))
+
+-- under a table text too.
+call-numbered : (call : Table → List ℕ → Reply (List ℕ)) → ((M : Table) (x : List ℕ) → NoHasNumber (call M x)) → (text x : List ℕ) (room : ℕ)
+    → NoHasNumber (onText call text x room)
+call-numbered call h text x room =
+    into-numbered room (readTable text then λ M. call M x)
+    (then-numbered (readTable text) (λ M. call M x) (text-numbered text) (λ M. h M x))
+
 -- So has a verdict that is not earliest.
 abbrev AllNumbered : List Condition → Type 0
 AllNumbered [] = Unit {0}
@@ -127,6 +192,14 @@ yes-of : {A : Type 0} (a : Reply A) → NoHasNumber a → 0 ≡ numberOf a → (
 yes-of (given x) h e = (x, refl)
 yes-of (refusal x) h e = absurd (omega arith)
 
+-- So is the answer of a call on records.
+module _ (call : Table → List ℕ → Reply (List ℕ)) (numbered : (M : Table) (x : List ℕ) → NoHasNumber (call M x)) where
+  text-yes : (text x : List ℕ) (room : ℕ) → 0 ≡ numberOf (onText call text x room) → (y : List ℕ) × (onText call text x room ≡ given y)
+  text-yes text x room = yes-of (onText call text x room) (call-numbered call numbered text x room)
+
+  table-yes : (M : Table) (x : List ℕ) (room : ℕ) → 0 ≡ numberOf (onTable call M x room) → (y : List ℕ) × (onTable call M x room ≡ given y)
+  table-yes M x room = yes-of (onTable call M x room) (into-numbered room (call M x) (numbered M x))
+
 -- A verdict whose number is 0 is earliest.
 earliest-of : (Right : Verdict → Type 0) (v : Verdict) → ((x : No) → Right (lateAs x) → 1 ≤ x .number) → Right v → 0 ≡ verdictNumber v → Right earliest
 earliest-of Right earliest h a e = a
@@ -140,6 +213,30 @@ word-zero text tree R R′ h = yes-of (wordAnswer text tree (length R)) (word-nu
 pub find-zero : {E : List ℕ} (M : Table) (tree R R′ : List ℕ) → WordLinked (wordInto M tree (length R)) R R′ 0 E
     → (w : Word) × (wordInto M tree (length R) ≡ given w)
 find-zero M tree R R′ h = yes-of (wordInto M tree (length R)) (find-numbered M tree (length R)) (h .told)
+
+pub record-word-zero : {E : List ℕ} (text s R R′ : List ℕ) → WordLinked (onText wordOfRecord text s (length R)) R R′ 0 E
+    → (w : Word) × (onText wordOfRecord text s (length R) ≡ given w)
+record-word-zero text s R R′ h = text-yes wordOfRecord word-of-numbered text s (length R) (h .told)
+
+pub record-tree-zero : {E : List ℕ} (text s R R′ : List ℕ) → SpelledLinked (onText treeOfRecord text s (length R)) R R′ 0 E
+    → (bs : List ℕ) × (onText treeOfRecord text s (length R) ≡ given bs)
+record-tree-zero text s R R′ h = text-yes treeOfRecord tree-of-numbered text s (length R) (h .told)
+
+pub tree-record-zero : {E : List ℕ} (text bs R R′ : List ℕ) → SpelledLinked (onText recordOfTree text bs (length R)) R R′ 0 E
+    → (s : List ℕ) × (onText recordOfTree text bs (length R) ≡ given s)
+tree-record-zero text bs R R′ h = text-yes recordOfTree record-of-numbered text bs (length R) (h .told)
+
+pub record-word-opened-zero : {E : List ℕ} (M : Table) (s R R′ : List ℕ) → WordLinked (onTable wordOfRecord M s (length R)) R R′ 0 E
+    → (w : Word) × (onTable wordOfRecord M s (length R) ≡ given w)
+record-word-opened-zero M s R R′ h = table-yes wordOfRecord word-of-numbered M s (length R) (h .told)
+
+pub record-tree-opened-zero : {E : List ℕ} (M : Table) (s R R′ : List ℕ) → SpelledLinked (onTable treeOfRecord M s (length R)) R R′ 0 E
+    → (bs : List ℕ) × (onTable treeOfRecord M s (length R) ≡ given bs)
+record-tree-opened-zero M s R R′ h = table-yes treeOfRecord tree-of-numbered M s (length R) (h .told)
+
+pub tree-record-opened-zero : {E : List ℕ} (M : Table) (bs R R′ : List ℕ) → SpelledLinked (onTable recordOfTree M bs (length R)) R R′ 0 E
+    → (s : List ℕ) × (onTable recordOfTree M bs (length R) ≡ given s)
+tree-record-opened-zero M bs R R′ h = table-yes recordOfTree record-of-numbered M bs (length R) (h .told)
 
 pub judge-zero : {E : List ℕ} (text : List ℕ) → JudgedLinked (λ v. JudgementAnswer text v) 0 E → JudgementAnswer text earliest
 judge-zero text h = earliest-of (λ v. JudgementAnswer text v) (h .verdict) (judgement-numbered text) (h .answer) (h .told)

@@ -16,7 +16,7 @@ use Rattle.table.specs.Opening.{Unchanged}
 use Rattle.entries.specs.Entries.{blank, numberOf, entriesOf, lettersEntries, lengthEntries}
 use Rattle.entries.specs.Entries.{verdictNumber, verdictEntries, comparisonNumber, comparisonEntries}
 
--- The entries of a word's answer, of a form's, and of a reading.
+-- The entries of a word's answer, of one that writes a form or other bytes, and of a reading.
 abbrev pub wordEntries : Reply Word → List ℕ
 wordEntries a = entriesOf (λ w. lettersEntries (lettersOf w)) a
 
@@ -30,6 +30,12 @@ openEntries a = entriesOf (λ M. blank) a
 pub record WordLinked (a : Reply Word) (R R′ : List ℕ) (number : ℕ) (entries : List ℕ) : Type 0 where
   pub told : number ≡ numberOf a
   pub all : entries ≡ wordEntries a
+  pub room : R′ ≡ filled R a
+
+-- The tree call and the record call with answer a: number, entries, and the room after it.
+pub record SpelledLinked (a : Reply (List ℕ)) (R R′ : List ℕ) (number : ℕ) (entries : List ℕ) : Type 0 where
+  pub told : number ≡ numberOf a
+  pub all : entries ≡ formEntries a
   pub room : R′ ≡ filled R a
 
 -- The form call: number, entries, and the room after it are those of an answer of the definition.

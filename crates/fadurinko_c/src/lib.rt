@@ -1,5 +1,5 @@
 // The public calls as C and Rust link them. The number is returned, 0 for a yes; what else an answer
-// holds goes into one array, every entry of which each call writes.
+// holds goes into one array, every entry of which each call writes. Those on records: record_calls.rt.
 ghost use lib.ListN.{length};
 ghost use Rattle.machine.specs.Machine.{Table};
 ghost use Rattle.machine.specs.Verdict as verdict;
@@ -8,6 +8,8 @@ ghost use Rattle.promises.specs.Word.{wordAnswer, wordInto};
 ghost use Rattle.promises.specs.Judgement.{JudgementAnswer};
 ghost use Rattle.layout.specs.Layout.{Meant};
 ghost use Rattle.fadurinko_c.specs.Linked.{WordLinked, FormLinked, JudgedLinked, ComparedLinked, OpenLinked};
+
+mod record_calls;
 
 // The word of a tree under a table text: its length and terms, and the room begins with it.
 #[no_mangle]

@@ -62,7 +62,7 @@ value-none c v (inr d) h = d .1
 -- ---- bytes
 
 -- Bytes in front of those that other characters are, if these are any.
-abbrev onto : List ℕ → Option (List ℕ) → Option (List ℕ)
+abbrev pub onto : List ℕ → Option (List ℕ) → Option (List ℕ)
 onto bs none = none
 onto bs (some ds) = some (bs ++ ds)
 
@@ -82,7 +82,7 @@ hex-append (b ∷ bs) rest o h e =
     rw (digit-digitOf (b / 16) (omega (arith, h .0)), digit-digitOf (b % 16) (omega arith), hex-append bs rest o (h .1) e) (byte-onto b bs o)
 
 -- Characters behind whole bytes.
-bytes-append : (front rest bs : List ℕ) (o : Option (List ℕ)) → bytesOf front ≡ some bs → bytesOf rest ≡ o → bytesOf (front ++ rest) ≡ onto bs o
+pub bytes-append : (front rest bs : List ℕ) (o : Option (List ℕ)) → bytesOf front ≡ some bs → bytesOf rest ≡ o → bytesOf (front ++ rest) ≡ onto bs o
 bytes-append front rest bs o e f = rw (bytes-hex front bs e) (hex-append bs rest o (bytes-small front bs e) f)
 
 -- With one digit behind whole bytes they are no bytes.
@@ -91,7 +91,7 @@ unfolding bytesOf
 bytes-odd front bs c e = bytes-append front (c ∷ []) bs none e refl
 
 -- With two they are one byte more.
-bytes-byte : (front bs : List ℕ) (x c h l : ℕ) → bytesOf front ≡ some bs → digit x ≡ some h → digit c ≡ some l
+pub bytes-byte : (front bs : List ℕ) (x c h l : ℕ) → bytesOf front ≡ some bs → digit x ≡ some h → digit c ≡ some l
     → bytesOf (front ++ x ∷ c ∷ []) ≡ some (bs ++ (h * 16 + l) ∷ [])
 unfolding bytesOf
 bytes-byte front bs x c h l e f g = bytes-append front (x ∷ c ∷ []) bs (some ((h * 16 + l) ∷ [])) e (rw (f, g))

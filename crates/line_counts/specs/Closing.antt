@@ -22,13 +22,14 @@ unfoldable pub strangeText : ℕ → List ℕ
 strangeText zero = []
 strangeText (suc k) = 0x2c ∷ 0x20 ∷ 0x6e ∷ 0x6f ∷ 0x74 ∷ 0x20 ∷ 0x68 ∷ 0x65 ∷ 0x78 ∷ 0x3a ∷ 0x20 ∷ [] ++ decimal (suc k)
 
--- What became of all lines: "LINES lines: WORDS words", the refusals, the lines that were no hexadecimal, and a line feed.
-abbrev pub countsLine : ℕ → ℕ → List ℕ → ℕ → List ℕ
-countsLine lines words refused strange =
+-- What became of all lines: "LINES lines: ANSWERED NAME", the refusals, the lines that were no hexadecimal, and a line feed.
+abbrev pub countsLine : ℕ → List ℕ → ℕ → List ℕ → ℕ → List ℕ
+countsLine lines name answered refused strange =
     decimal lines
     ++ 0x20 ∷ 0x6c ∷ 0x69 ∷ 0x6e ∷ 0x65 ∷ 0x73 ∷ 0x3a ∷ 0x20 ∷ []
-    ++ decimal words
-    ++ 0x20 ∷ 0x77 ∷ 0x6f ∷ 0x72 ∷ 0x64 ∷ 0x73 ∷ []
+    ++ decimal answered
+    ++ 0x20 ∷ []
+    ++ name
     ++ refusedTexts refused
     ++ strangeText strange
     ++ 0x0a ∷ []

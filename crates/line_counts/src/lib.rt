@@ -77,22 +77,24 @@ fn put_strange(count: u64, out: &mut [u8], used: usize) -> usize
     put_number(count, out, at)
 }
 
-// Puts what became of all lines: how many had a word, were refused by each number from 1 on, or were
-// no hexadecimal.
+// Puts what became of all lines: how many were answered with what has this name, refused by each number
+// from 1 on, or no hexadecimal.
 pub fn put_counts(
     lines: u64,
-    words: u64,
+    name: &[u8],
+    answered: u64,
     refused: &[u64],
     strange: u64,
     out: &mut [u8],
     used: usize,
 ) -> usize
-    ensures { λ r. ⌜ Queued (countsLine lines words (now (refused .entry)) strange) (now (out .entry)) used (now (out .exit)) r ⌝ }
+    ensures { λ r. ⌜ Queued (countsLine lines (now (name .entry)) answered (now (refused .entry)) strange) (now (out .entry)) used (now (out .exit)) r ⌝ }
 {
     let at = put_number(lines, out, used);
     let at = put_all(b" lines: ", out, at);
-    let at = put_number(words, out, at);
-    let at = put_all(b" words", out, at);
+    let at = put_number(answered, out, at);
+    let at = put(b' ', out, at);
+    let at = put_all(name, out, at);
     let at = put_all_refused(refused, out, at);
     let at = put_strange(strange, out, at);
     put(b'\n', out, at)

@@ -2,12 +2,12 @@
 use mathlib.Core.Path.{_≡_, refl, sym, ap, subst, _∙_}
 use mathlib.Core.Bool.{Bool, true, false}
 use mathlib.Core.List.{List, [], _∷_, _++_, append-nil, append-assoc}
-use Prim.Native.Nat.{ℕ, zero, suc, _+_, _-_, _<_, _≤_}
+use Prim.Native.Nat.{ℕ, suc, _+_, _-_, _*_, _<_, _≤_}
 use native.Mathlib.Omega.{arith}
 use borrow.Author.Tests.{eqb-true}
 use lib.Dec.{eqb}
 use native.Mathlib.Numerals.{add-one}
-use lib.ListN.{length, take, drop, getD, length-take, length-drop}
+use lib.ListN.{length, take, drop, getD, length-append, length-take, length-drop}
 use lib.Seq.{take-all, take-suc, take-add, getD-take, getD-drop}
 use Rattle.words.specs.Reply.{Reply}
 use Rattle.machine.specs.Machine.{Table}
@@ -18,10 +18,14 @@ use Rattle.table.specs.declared.Opening.{Opening}
 use Rattle.hexline.specs.SoFar.{LineHeld, UpToFeed}
 use Rattle.hexline.specs.declared.SoFar.{SoFar}
 use Rattle.hexline.proofs.Laws.{taken-inside}
+use Rattle.long_line.specs.Held.{countMost, LongHeld}
+use Rattle.long_line.specs.declared.LongLine.{LongLine}
+use Rattle.long_line.proofs.Lines.{long-fed, long-wider}
 use Rattle.output.specs.Queue.{Queued}
 use Rattle.output.proofs.Queues.{queued-none, queued-as, queued-then}
 use Rattle.respond.specs.Response.{lineAnswer}
-use Rattle.pieces.specs.Piece.{FeedFree, answersTo, lastOf, LinesAnswered}
+use Rattle.respond.specs.declared.Asked.{Asked}
+use Rattle.pieces.specs.Piece.{FeedFree, answersTo, lastOf, LinesAnswered, heldMost, PieceSoFar}
 
 -- Characters in front of lines.
 unfoldable before : List ℕ → Lines → Lines
@@ -74,60 +78,78 @@ unfolding before
 before-line [] = refl
 before-line (c ∷ l) = ap (push c) (before-line l)
 
-module _ (t : Reply Table) (room : ℕ) where
+-- A character in front makes the last line longer by one at most.
+push-last : (c : ℕ) (ls : Lines) → length (lastOf (push c ls)) ≤ suc (length (lastOf ls))
+unfolding lastOf
+push-last c (behind l) = omega arith
+push-last c (line l ls) = omega arith
+
+-- The last line has no more characters than all lines.
+last-most : (xs : List ℕ) → length (lastOf (linesOf xs)) ≤ length xs
+unfolding linesOf lastOf
+last-most [] = omega arith
+last-most (x ∷ xs) = go (eqb x 0x0a) (last-most xs)
+  where
+    go : (b : Bool) → length (lastOf (linesOf xs)) ≤ length xs
+        → length (lastOf (elim b as (λ z. Lines) [ true ↦ line [] (linesOf xs) | false ↦ push x (linesOf xs) ])) ≤ suc (length xs)
+    go true h = omega arith
+    go false h = omega (arith, push-last x (linesOf xs))
+
+module _ (a : Asked) (F I : List ℕ) (t : Reply Table) (room : ℕ) where
   -- More characters of the last line.
   joined-behind : (ls : Lines) (ys : List ℕ)
-      → (answersTo t room (joined ls (behind ys)) ≡ answersTo t room ls) × (lastOf (joined ls (behind ys)) ≡ lastOf ls ++ ys)
+      → (answersTo a t room (joined ls (behind ys)) ≡ answersTo a t room ls) × (lastOf (joined ls (behind ys)) ≡ lastOf ls ++ ys)
   unfolding joined answersTo lastOf
-  joined-behind (behind l) ys = (ap (answersTo t room) (before-behind l ys), ap lastOf (before-behind l ys))
+  joined-behind (behind l) ys = (ap (answersTo a t room) (before-behind l ys), ap lastOf (before-behind l ys))
   joined-behind (line l ls) ys =
       let i = joined-behind ls ys in
-      (ap (λ (x : List ℕ). lineAnswer t room l ++ x) (i .0), i .1)
+      (ap (λ (x : List ℕ). lineAnswer a t room l ++ x) (i .0), i .1)
 
   -- The line feed of the last line.
   joined-feed : (ls : Lines)
-      → (answersTo t room (joined ls (line [] (behind []))) ≡ answersTo t room ls ++ lineAnswer t room (lastOf ls))
+      → (answersTo a t room (joined ls (line [] (behind []))) ≡ answersTo a t room ls ++ lineAnswer a t room (lastOf ls))
       × (lastOf (joined ls (line [] (behind []))) ≡ [])
   unfolding joined answersTo lastOf
-  joined-feed (behind l) = (ap (answersTo t room) (before-line l) ∙ append-nil (lineAnswer t room l), ap lastOf (before-line l))
+  joined-feed (behind l) = (ap (answersTo a t room) (before-line l) ∙ append-nil (lineAnswer a t room l), ap lastOf (before-line l))
   joined-feed (line l ls) =
       let i = joined-feed ls in
-      let e = sym (append-assoc (lineAnswer t room l) (answersTo t room ls) (lineAnswer t room (lastOf ls))) in
-      (ap (λ (x : List ℕ). lineAnswer t room l ++ x) (i .0) ∙ e, i .1)
+      let e = sym (append-assoc (lineAnswer a t room l) (answersTo a t room ls) (lineAnswer a t room (lastOf ls))) in
+      (ap (λ (x : List ℕ). lineAnswer a t room l ++ x) (i .0) ∙ e, i .1)
 
   -- More characters of the last line came.
-  left-fed : (xs ys O O′ T T′ : List ℕ) (u r : ℕ) (l l′ : SoFar) → LinesAnswered t room (linesOf xs) O u O′ r T l → FeedFree ys
-      → (LineHeld (lastOf (linesOf xs)) T l → LineHeld (lastOf (linesOf xs) ++ ys) T′ l′)
-      → LinesAnswered t room (linesOf (xs ++ ys)) O u O′ r T′ l′
-  left-fed xs ys O O′ T T′ u r l l′ a h f =
+  left-fed : (xs ys O O′ T T′ : List ℕ) (u r k k′ : ℕ) (l l′ : LongLine) → LinesAnswered a F I t room (linesOf xs) O u O′ r k T l → FeedFree ys
+      → (LongHeld F I k (lastOf (linesOf xs)) T l → LongHeld F I k′ (lastOf (linesOf xs) ++ ys) T′ l′)
+      → LinesAnswered a F I t room (linesOf (xs ++ ys)) O u O′ r k′ T′ l′
+  left-fed xs ys O O′ T T′ u r k k′ l l′ s h f =
       let j = joined-behind (linesOf xs) ys in
       let e : linesOf (xs ++ ys) ≡ joined (linesOf xs) (behind ys) = lines-append xs ys ∙ ap (joined (linesOf xs)) (lines-none ys h) in
       record {
-        answers = queued-as (sym (ap (answersTo t room) e ∙ j .0)) (a .answers);
-        held = subst (λ (x : List ℕ). LineHeld x T′ l′) (sym (ap lastOf e ∙ j .1)) (f (a .held));
+        answers = queued-as (sym (ap (answersTo a t room) e ∙ j .0)) (s .answers);
+        held = subst (λ (x : List ℕ). LongHeld F I k′ x T′ l′) (sym (ap lastOf e ∙ j .1)) (f (s .held));
       }
 
   -- The line feed of the last line came, and the line was answered.
-  left-answered : (xs O O₁ O₂ T T′ : List ℕ) (u m r : ℕ) (l l′ : SoFar) → LinesAnswered t room (linesOf xs) O u O₁ m T l
-      → (LineHeld (lastOf (linesOf xs)) T l → Queued (lineAnswer t room (lastOf (linesOf xs))) O₁ m O₂ r) → LineHeld [] T′ l′
-      → LinesAnswered t room (linesOf (xs ++ 0x0a ∷ [])) O u O₂ r T′ l′
+  left-answered : (xs O O₁ O₂ T T′ : List ℕ) (u m r k k′ : ℕ) (l l′ : LongLine) → LinesAnswered a F I t room (linesOf xs) O u O₁ m k T l
+      → (LongHeld F I k (lastOf (linesOf xs)) T l → Queued (lineAnswer a t room (lastOf (linesOf xs))) O₁ m O₂ r) → LongHeld F I k′ [] T′ l′
+      → LinesAnswered a F I t room (linesOf (xs ++ 0x0a ∷ [])) O u O₂ r k′ T′ l′
   unfolding linesOf
-  left-answered xs O O₁ O₂ T T′ u m r l l′ a f h =
+  left-answered xs O O₁ O₂ T T′ u m r k k′ l l′ s f h =
       let j = joined-feed (linesOf xs) in
       let e : linesOf (xs ++ 0x0a ∷ []) ≡ joined (linesOf xs) (line [] (behind [])) = lines-append xs (0x0a ∷ []) in
       record {
-        answers = queued-as (sym (ap (answersTo t room) e ∙ j .0)) (queued-then (a .answers) (f (a .held)));
-        held = subst (λ (x : List ℕ). LineHeld x T′ l′) (sym (ap lastOf e ∙ j .1)) h;
+        answers = queued-as (sym (ap (answersTo a t room) e ∙ j .0)) (queued-then (s .answers) (f (s .held)));
+        held = subst (λ (x : List ℕ). LongHeld F I k′ x T′ l′) (sym (ap lastOf e ∙ j .1)) h;
       }
 
   -- Before anything came.
-  left-none : (cs piece O T : List ℕ) (l : SoFar) → FeedFree cs → LineHeld cs T l → LinesAnswered t room (linesOf (cs ++ take 0 piece)) O 0 O 0 T l
+  left-none : (cs piece O T : List ℕ) (k : ℕ) (l : LongLine) → FeedFree cs → LongHeld F I k cs T l
+      → LinesAnswered a F I t room (linesOf (cs ++ take 0 piece)) O 0 O 0 k T l
   unfolding answersTo lastOf
-  left-none cs piece O T l n h =
+  left-none cs piece O T k l n h =
       let e : linesOf (cs ++ take 0 piece) ≡ behind cs = ap linesOf (append-nil cs) ∙ lines-none cs n in
       record {
-        answers = queued-as (sym (ap (answersTo t room) e)) (queued-none O 0);
-        held = subst (λ (x : List ℕ). LineHeld x T l) (sym (ap lastOf e)) h;
+        answers = queued-as (sym (ap (answersTo a t room) e)) (queued-none O 0);
+        held = subst (λ (x : List ℕ). LongHeld F I k x T l) (sym (ap lastOf e)) h;
       }
 
 module _ (piece : List ℕ) where
@@ -147,60 +169,81 @@ module _ (piece : List ℕ) where
       let g : n < length (take (length piece - at) (drop at piece)) = omega (arith, length-take (length piece - at) (drop at piece), length-drop at piece) in
       sym (getD-drop at piece n 0) ∙ sym (ap (λ (x : List ℕ). getD x n 0) (part at)) ∙ k .end g
 
--- The loop over a piece: the answers to the lines that end before `at` were put, whatever characters came before the piece.
-pub record PieceSoFar (F I T₀ : List ℕ) (l₀ : SoFar) (o : Opening) (room : ℕ) (piece O₀ : List ℕ) (at used : ℕ) (O T : List ℕ)
-    (l : SoFar) : Type 0 where
-  pub inside : at ≤ length piece
-  pub long : length T ≡ length T₀
-  pub left : (cs : List ℕ) (t : Reply Table) → FeedFree cs → LineHeld cs T₀ l₀ → treeMost < length T₀ → Opens F I t o
-      → LinesAnswered t room (linesOf (cs ++ take at piece)) O₀ 0 O used T l
-
-module _ {F I T₀ : List ℕ} {l₀ : SoFar} {o : Opening} {room : ℕ} {O₀ : List ℕ} (piece : List ℕ) where
+module _ {a : Asked} {F I T₀ : List ℕ} {l₀ : LongLine} {o : Opening} {room : ℕ} {O₀ : List ℕ} (piece : List ℕ) where
   -- Nothing was taken yet.
-  pub so-far-none : PieceSoFar F I T₀ l₀ o room piece O₀ 0 0 O₀ T₀ l₀
-  so-far-none = record { inside = omega arith; long = refl; left = λ cs t n h m s. left-none t room cs piece O₀ T₀ l₀ n h }
+  pub so-far-none : PieceSoFar a F I T₀ l₀ o room piece O₀ 0 0 O₀ T₀ l₀
+  so-far-none = record { inside = omega arith; long = refl; left = λ cs t n m p h s. left-none a F I t room cs piece O₀ T₀ (heldMost 0) l₀ n h }
 
   -- Characters up to a line feed or the piece's end.
-  pub so-far-fed : (at n : ℕ) {used : ℕ} {O T T′ : List ℕ} {l l′ : SoFar} → PieceSoFar F I T₀ l₀ o room piece O₀ at used O T l
+  pub so-far-fed : (at n : ℕ) {used : ℕ} {O T T′ : List ℕ} {l : LongLine} {l′ : SoFar} → PieceSoFar a F I T₀ l₀ o room piece O₀ at used O T l
       → UpToFeed (take (length piece - at) (drop at piece)) n
-      → ((cs : List ℕ) → LineHeld cs T l → LineHeld (cs ++ take n (take (length piece - at) (drop at piece))) T′ l′) → length T′ ≡ length T
-      → PieceSoFar F I T₀ l₀ o room piece O₀ (at + n) used O T′ l′
+      → ((cs : List ℕ) → LineHeld cs T (l .line) → LineHeld (cs ++ take n (take (length piece - at) (drop at piece))) T′ l′) → length T′ ≡ length T
+      → PieceSoFar a F I T₀ l₀ o room piece O₀ (at + n) used O T′ (record { past = l .past; line = l′ })
   so-far-fed at n {used} {O} {T} {T′} {l} {l′} g k f e =
+      let fed : LongLine = record { past = l .past; line = l′ } in
+      let few : heldMost at + length (take n (drop at piece)) ≤ heldMost (at + n) = omega (arith, length-take n (drop at piece)) in
       record {
         inside = taken-inside piece at n k (g .inside);
         long = e ∙ g .long;
-        left = λ cs t i h m s.
+        left = λ cs t i m p h s.
             let more = append-assoc cs (take at piece) (take n (drop at piece)) ∙ ap (λ (x : List ℕ). cs ++ x) (sym (take-add at n piece)) in
-            let last : List ℕ = lastOf (linesOf (cs ++ take at piece)) in
-            subst (λ (x : List ℕ). LinesAnswered t room (linesOf x) O₀ 0 O used T′ l′) more
-            (left-fed t room (cs ++ take at piece) (take n (drop at piece)) O₀ O T T′ 0 used l l′ (g .left cs t i h m s) (taken-plain piece at n k)
-            (λ d. subst (λ (x : List ℕ). LineHeld (last ++ take n x) T′ l′) (part piece at) (f last d)));
+            subst (λ (x : List ℕ). LinesAnswered a F I t room (linesOf x) O₀ 0 O used (heldMost (at + n)) T′ fed) more
+            (left-fed a F I t room (cs ++ take at piece) (take n (drop at piece)) O₀ O T T′ 0 used (heldMost at) (heldMost (at + n)) l fed
+            (g .left cs t i m p h s) (taken-plain piece at n k)
+            (λ d. long-wider (long-fed d (take n (drop at piece))
+            (λ rs z. subst (λ (x : List ℕ). LineHeld (rs ++ take n x) T′ l′) (part piece at) (f rs z))) few));
       }
 
+  -- The line so far, said otherwise.
+  pub so-far-as : {at used : ℕ} {O T : List ℕ} {l l′ : LongLine} → l′ ≡ l → PieceSoFar a F I T₀ l₀ o room piece O₀ at used O T l
+      → PieceSoFar a F I T₀ l₀ o room piece O₀ at used O T l′
+  so-far-as {at} {used} {O} {T} e g = subst (λ (x : LongLine). PieceSoFar a F I T₀ l₀ o room piece O₀ at used O T x) (sym e) g
+
+  -- A step that was made with as much room.
+  pub so-far-room : {room′ at at′ used used′ : ℕ} {O O′ T T′ : List ℕ} {l l′ : LongLine} → room′ ≡ room
+      → (PieceSoFar a F I T₀ l₀ o room′ piece O₀ at used O T l → PieceSoFar a F I T₀ l₀ o room′ piece O₀ at′ used′ O′ T′ l′)
+      → PieceSoFar a F I T₀ l₀ o room piece O₀ at used O T l → PieceSoFar a F I T₀ l₀ o room piece O₀ at′ used′ O′ T′ l′
+  so-far-room {room′} {at} {at′} {used} {used′} {O} {O′} {T} {T′} {l} {l′} e f =
+      subst (λ (n : ℕ). PieceSoFar a F I T₀ l₀ o n piece O₀ at used O T l → PieceSoFar a F I T₀ l₀ o n piece O₀ at′ used′ O′ T′ l′) e f
+
   -- A line feed, whose line was answered.
-  pub so-far-answered : (at : ℕ) {used r room′ : ℕ} {O O′ T : List ℕ} {l l′ : SoFar} → PieceSoFar F I T₀ l₀ o room piece O₀ at used O T l
+  pub so-far-answered : (at : ℕ) {used r room′ : ℕ} {O O′ T : List ℕ} {l l′ : LongLine} → PieceSoFar a F I T₀ l₀ o room piece O₀ at used O T l
       → room′ ≡ room
-      → ((cs : List ℕ) (t : Reply Table) → LineHeld cs T l → treeMost < length T → Opens F I t o → Queued (lineAnswer t room′ cs) O used O′ r)
-      → ((tree : List ℕ) → LineHeld [] tree l′) → at < length piece → getD piece at 0 ≡ 0x0a
-      → PieceSoFar F I T₀ l₀ o room piece O₀ (at + 1) r O′ T l′
+      → ((cs : List ℕ) (t : Reply Table) → length cs < countMost → treeMost < length T → LongHeld F I (2 * length T) cs T l → Opens F I t o
+      → Queued (lineAnswer a t room′ cs) O used O′ r)
+      → ((F I T : List ℕ) (k : ℕ) → 0 < k → LongHeld F I k [] T l′) → at < length piece → getD piece at 0 ≡ 0x0a
+      → PieceSoFar a F I T₀ l₀ o room piece O₀ (at + 1) r O′ T l′
   so-far-answered at {used} {r} {room′} {O} {O′} {T} {l} {l′} g q f h i e =
       record {
         inside = omega arith;
         long = g .long;
-        left = λ cs t j d m s.
+        left = λ cs t j m p d s.
             let z : take (at + 1) piece ≡ take at piece ++ 0x0a ∷ [] =
             ap (λ (k : ℕ). take k piece) (add-one at) ∙ take-suc piece at 0 i ∙ ap (λ (k : ℕ). take at piece ++ k ∷ []) e in
             let last : List ℕ = lastOf (linesOf (cs ++ take at piece)) in
-            subst (λ (x : List ℕ). LinesAnswered t room (linesOf x) O₀ 0 O′ r T l′)
+            let few : length last < countMost =
+            omega (arith, m, i, last-most (cs ++ take at piece), length-append cs (take at piece), length-take at piece) in
+            let places : treeMost < length T = omega (arith, p, g .long) in
+            let fits : heldMost at ≤ 2 * length T = omega (arith, p, g .long, i) in
+            let begun : 0 < heldMost (at + 1) = omega arith in
+            subst (λ (x : List ℕ). LinesAnswered a F I t room (linesOf x) O₀ 0 O′ r (heldMost (at + 1)) T l′)
             (append-assoc cs (take at piece) (0x0a ∷ []) ∙ ap (λ (x : List ℕ). cs ++ x) (sym z))
-            (left-answered t room (cs ++ take at piece) O₀ O O′ T T 0 used r l l′ (g .left cs t j d m s)
-            (λ k. subst (λ (n : ℕ). Queued (lineAnswer t n last) O used O′ r) q (f last t k (subst (λ (n : ℕ). treeMost < n) (sym (g .long)) m) s))
-            (h T));
+            (left-answered a F I t room (cs ++ take at piece) O₀ O O′ T T 0 used r (heldMost at) (heldMost (at + 1)) l l′ (g .left cs t j m p d s)
+            (λ k. subst (λ (n : ℕ). Queued (lineAnswer a t n last) O used O′ r) q (f last t few places (long-wider k fits) s))
+            (h F I T (heldMost (at + 1)) begun));
       }
 
   -- The whole piece.
-  pub so-far-all : (at : ℕ) {used : ℕ} {O T : List ℕ} {l : SoFar} → PieceSoFar F I T₀ l₀ o room piece O₀ at used O T l → length piece ≤ at
-      → (cs : List ℕ) (t : Reply Table) → FeedFree cs → LineHeld cs T₀ l₀ → treeMost < length T₀ → Opens F I t o
-      → LinesAnswered t room (linesOf (cs ++ piece)) O₀ 0 O used T l
-  so-far-all at {used} {O} {T} {l} g h cs t n d m s =
-      subst (λ (x : List ℕ). LinesAnswered t room (linesOf (cs ++ x)) O₀ 0 O used T l) (take-all at piece h) (g .left cs t n d m s)
+  pub so-far-all : (at : ℕ) {used : ℕ} {O T : List ℕ} {l₁ l : LongLine} → PieceSoFar a F I T₀ l₀ o room piece O₀ at used O T l → length piece ≤ at
+      → ((cs : List ℕ) → length cs < countMost → LongHeld F I (2 * length T₀) cs T₀ l₁ → LongHeld F I (2 * treeMost + 2) cs T₀ l₀)
+      → (cs : List ℕ) (t : Reply Table) → FeedFree cs → length cs + length piece < countMost
+      → 2 * treeMost + 2 + length piece ≤ 2 * length T₀ → LongHeld F I (2 * length T₀) cs T₀ l₁ → Opens F I t o
+      → LinesAnswered a F I t room (linesOf (cs ++ piece)) O₀ 0 O used (2 * length T) T l
+  so-far-all at {used} {O} {T} {l₁} {l} g h w cs t n m p d s =
+      let few : length cs < countMost = omega arith in
+      let start : 2 * treeMost + 2 ≤ heldMost 0 = omega arith in
+      let fits : heldMost at ≤ 2 * length T = omega (arith, g .inside, g .long, p) in
+      let left = g .left cs t n m p (long-wider (w cs few d) start) s in
+      let e : linesOf (cs ++ take at piece) ≡ linesOf (cs ++ piece) = ap (λ (x : List ℕ). linesOf (cs ++ x)) (take-all at piece h) in
+      subst (λ (x : Lines). LinesAnswered a F I t room x O₀ 0 O used (2 * length T) T l) e
+      (record { answers = left .answers; held = long-wider (left .held) fits })

@@ -4,3 +4,4 @@ pub mod Word
 pub mod Judgement
 pub mod Form
 pub mod Comparison
+pub mod Records

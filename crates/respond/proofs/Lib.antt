@@ -1,2 +1,2 @@
--- What an answer's line says, and trees that are too long for their bytes.
+-- What an answer's line says, and bytes that are too many for a tree.
 pub mod Laws

@@ -1,17 +1,15 @@
 // The words of many trees under one table. `word TABLEFILE` reads the table text from the file and
 // trees from standard input, one a line in lowercase hexadecimal, and answers each with one line:
 // `word LENGTH TERMS HEX`, `no NUMBER PLACE` or `not hex`.
-mod report;
-mod stream;
-
 use console::Input;
+use respond::Asked;
 
 // Answers the input under the table of a text.
 fn answer_under(text: &[u8]) {
     let mut frames = [0u8; layout::FRAMES];
     let mut numbers = [0u64; layout::NUMBERS];
     let opening = table::open(text, &mut frames, &mut numbers);
-    stream::answer_all(opening, &frames, &numbers);
+    line_answers::answer_all(Asked::Word, opening, &frames, &numbers);
 }
 
 // Reads the table text and answers.

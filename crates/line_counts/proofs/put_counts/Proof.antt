@@ -9,21 +9,24 @@ returns c =
     let feed = c .before .before in
     let strange = feed .before .before .before .before in
     let refused = strange .before .before .before .before in
-    let words-named = refused .before .before .before .before in
-    let words = words-named .before .before .before .before .before in
-    let lines-named = words .before .before .before .before in
+    let named = refused .before .before .before .before in
+    let blank = named .before .before .before .before in
+    let answered = blank .before .before .before .before in
+    let lines-named = answered .before .before .before .before in
     let lines = lines-named .before .before .before .before .before in
     queued-then
     (queued-then
     (queued-then
     (queued-then
     (queued-then
+    (queued-then
     (queued-then (lines .put-number .ensures) (lines-named .put-all .ensures))
-    (words .put-number2 .ensures))
-    (words-named .put-all2 .ensures))
+    (answered .put-number2 .ensures))
+    (blank .put .ensures))
+    (named .put-all2 .ensures))
     (refused .put-all-refused .ensures))
     (strange .put-strange .ensures))
-    (feed .put .ensures)
+    (feed .put2 .ensures)
 
 pub put-counts-spec : {M : Type 1} → statement M
 put-counts-spec =

@@ -6,10 +6,8 @@ use Rattle.pieces.proofs.answer.Tie as tie
 
 returns : tie.Need-returns
 returns c =
-    let called = c .before .before .before .before .before .before .before .before in
-    λ cs t h m o. answered-line t _ _ cs _ _ _ (called .to-line .ensures cs t h m o)
+    let c8 = c .before .before .before .before .before .before .before .before in
+    λ cs t n m h o. answered-line _ t _ _ cs _ _ _ (c8 .to-line .ensures cs t n m h o)
 
 pub answer-spec : {M : Type 1} → statement M
-answer-spec =
-    tie.close
-    (tie.spec (λ c κs. search needs) (λ c κs. search needs) (λ c. search needs) (λ c. search needs) (λ c. search needs) returns)
+answer-spec = tie.close (tie.spec (λ c κs. search needs) (λ c κs. search needs) (λ c. search needs) (λ c. search needs) (λ c. search needs) returns)

@@ -1,32 +1,34 @@
 -- `to_line` meets its contract: each answer in its turn.
 use borrow.Author.Tests.{not-true, not-false}
-use Rattle.respond.proofs.Laws.{strange-answered, table-answered, refused-answered}
+use Rattle.respond.proofs.Laws as law
 use borrow.Author.Needs.{needs}
 use Rattle.respond.proofs.to_line.Statement.{statement}
 use Rattle.respond.proofs.to_line.Tie as tie
 
 returns : tie.Need-returns
 returns c =
-    let tested = c .before .before .before .before .before in
-    λ cs t h m o.
-    strange-answered cs _ _ _ t _ _ _ _ _ h (tested .before .is-hex .ensures cs _ h) (not-true _ (tested .if1 .taken)) (c .before .before .put-all .ensures)
+    let c5 = c .before .before .before .before .before in
+    let c6 = c5 .before in
+    λ cs t n m h o.
+    law.strange-answered _ cs _ _ t _ _ _ _ (c6 .is-hex .ensures _ _ cs _ _ h) (not-true _ (c5 .if1 .taken)) (c .before .before .put-all .ensures)
 
 returns-2 : tie.Need-returns-2
 returns-2 c =
-    let answered = c .before .before .before .before in
-    let cut = answered .before .before .before .before in
-    let told = cut .before in
-    let tested = told .before .before in
-    λ cs t h m o.
-    table-answered cs _ _ _ _ _ _ t _ _ _ _ _ _ (told .enum-told .given .1) o (tested .before .is-hex .ensures cs _ h) (not-false _ (tested .if1 .left)) m
-    (cut .front .ensures) (answered .to-tree .ensures)
+    let c4 = c .before .before .before .before in
+    let c9 = c4 .before .before .before .before .before in
+    let c11 = c9 .before .before in
+    let c12 = c11 .before in
+    λ cs t n m h o.
+    law.table-answered _ cs _ _ _ _ t _ _ _ _ _ (c9 .enum-told .given .1) o (c12 .is-hex .ensures _ _ cs _ _ h) (not-false _ (c11 .if1 .left))
+    (λ bs e. c4 .to-held .ensures cs bs n m e h)
 
 returns-3 : tie.Need-returns-3
 returns-3 c =
-    let told = c .before .before .before .before .before in
-    let tested = told .before .before in
-    λ cs t h m o.
-    refused-answered cs _ _ _ _ _ t _ _ _ _ _ _ _ (told .opening .given .1) o (tested .before .is-hex .ensures cs _ h) (not-false _ (tested .if1 .left))
+    let c5 = c .before .before .before .before .before in
+    let c7 = c5 .before .before in
+    let c8 = c7 .before in
+    λ cs t n m h o.
+    law.refused-answered _ cs _ _ _ _ t _ _ _ _ _ _ (c5 .opening .given .1) o (c8 .is-hex .ensures _ _ cs _ _ h) (not-false _ (c7 .if1 .left))
     (c .before .before .refused .ensures)
 
 pub to-line-spec : {M : Type 1} → statement M
@@ -39,7 +41,6 @@ to-line-spec =
     (λ c. search needs)
     returns
     (λ c. search needs)
-    (λ c κs. search needs)
     (λ c κs. search needs)
     (λ c. search needs)
     (λ c κs. search needs)

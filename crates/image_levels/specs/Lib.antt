@@ -1,0 +1,2 @@
+-- What is told of the levels of an image.
+pub mod LevelsTold

@@ -1,0 +1,2 @@
+-- Laws of reading a stream under a symbol list.
+pub mod Under

@@ -1,0 +1,2 @@
+-- What reading a stream under a table answers.
+pub mod RecordRead

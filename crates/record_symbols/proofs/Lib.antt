@@ -1,0 +1,2 @@
+-- Laws of looking for the last symbol of a list.
+pub mod Lasts

@@ -1,0 +1,2 @@
+-- The last symbol of a list for records.
+pub mod LastTold

@@ -1,0 +1,2 @@
+-- Laws of looking through a whole stream.
+pub mod Steps

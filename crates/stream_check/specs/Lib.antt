@@ -1,0 +1,2 @@
+-- What is told of a stream.
+pub mod StreamTold

@@ -1,0 +1,2 @@
+-- What counting a stream through tells.
+pub mod CountTold

@@ -1,0 +1,30 @@
+-- `put` meets its contract: 12 with the stream's length, or the room with the stream in front. Assumes nothing.
+use mathlib.Core.Path.{sym}
+use native.Mathlib.Omega.{arith}
+use lib.Seq.{length-take-le}
+use borrow.Author.Needs.{needs}
+use Rattle.tree_record_call.proofs.Images.{front-long}
+use Rattle.tree_record_call.proofs.Answers.{short-spells, long-spells}
+use Rattle.tree_record_call.proofs.put.Statement.{statement}
+use Rattle.tree_record_call.proofs.put.Tie as tie
+
+returns : tie.Need-returns
+returns c = let a = c .before .before .before .args in short-spells (a .room .now) (a .last) (a .tree .now) (c .if1 .taken)
+
+slice-aggregate-put-replaced : tie.Need-slice-aggregate-put-replaced
+slice-aggregate-put-replaced c = sym (length-take-le _ _ (omega arith))
+
+put-replaced-requires : tie.Need-put-replaced-requires
+put-replaced-requires c κs = omega (arith, front-long (c .before .before .before .before .before .args .tree .now))
+
+returns-2 : tie.Need-returns-2
+returns-2 c =
+    let written = c .before .before in
+    let fits = written .before .before .before in
+    let a = fits .before .before .before .args in
+    long-spells (a .room .now) _ (a .last) (a .tree .now) (fits .if1 .left) (written .put-replaced .ensures)
+
+pub put-spec : {M : Type 1} → statement M
+put-spec =
+    tie.close
+    (tie.spec (λ c. search needs) returns slice-aggregate-put-replaced put-replaced-requires (λ c. search needs) returns-2)
