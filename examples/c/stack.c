@@ -101,6 +101,44 @@ static void write_text(void)
     put_frame(end, sizeof end);
 }
 
+/* ---- A large table for records: as many states and rules, nearly as many bytes, the labels 0 to 62. */
+
+#define LABEL_RULES 7  /* labels 0 to 6 */
+#define ABSENT 63
+#define LABEL_LETTERS 26
+
+/* The rules of a state: each label writes some letters and goes on to the next state twice, and the
+ * last symbol writes nothing. */
+static void put_record_rules(uint8_t state)
+{
+    uint8_t next = (uint8_t)((state + 1) % STATES);
+    uint8_t frame[64] = {3, state, 0, LABEL_LETTERS};
+    uint8_t *children = frame + 4 + LABEL_LETTERS;
+    memset(frame + 4, 64 + state, LABEL_LETTERS);
+    children[0] = children[2] = next;
+    for (uint8_t label = 0; label < LABEL_RULES; label++) {
+        frame[2] = label;
+        put_frame(frame, 4 + LABEL_LETTERS + 4);
+    }
+    frame[2] = ABSENT;
+    frame[3] = 0;
+    put_frame(frame, 4);
+}
+
+static void write_record_text(void)
+{
+    static const uint8_t label[] = {1, 2}, absent[] = {1, 0}, end[] = {4};
+    static const uint8_t initial[] = {2, STATES, 0, 0, 0};
+    text_length = 0;
+    for (int symbol = 0; symbol < ABSENT; symbol++)
+        put_frame(label, sizeof label);
+    put_frame(absent, sizeof absent);
+    put_frame(initial, sizeof initial);
+    for (uint8_t state = 0; state < STATES; state++)
+        put_record_rules(state);
+    put_frame(end, sizeof end);
+}
+
 /* ---- A large tree: 64 levels, and some 29,000 symbols. */
 
 #define SPINE 50  /* levels above the full tree at the bottom, which has 14 */
@@ -108,12 +146,12 @@ static void write_text(void)
 static uint8_t tree[FADURINKO_TREE];
 static size_t tree_length;
 
-static void put_full_tree(int levels)
+static void put_full_tree(int levels, uint8_t leaf)
 {
-    tree[tree_length++] = levels > 1 ? 0 : 1;
+    tree[tree_length++] = levels > 1 ? 0 : leaf;
     if (levels > 1) {
-        put_full_tree(levels - 1);
-        put_full_tree(levels - 1);
+        put_full_tree(levels - 1, leaf);
+        put_full_tree(levels - 1, leaf);
     }
 }
 
@@ -121,9 +159,30 @@ static void write_tree(void)
 {
     memset(tree, 0, SPINE);
     tree_length = SPINE;
-    put_full_tree(FADURINKO_DEPTH - SPINE);
+    put_full_tree(FADURINKO_DEPTH - SPINE, 1);
     for (int level = 0; level < SPINE; level++)
-        put_full_tree(8);
+        put_full_tree(8, 1);
+}
+
+/* ---- A large record: its tree is as large, and has the last symbol for the root's second child. */
+
+#define SECOND_CHILD (SPINE + 16383 + (SPINE - 1) * 255)  /* where that stands, at the tree's end */
+
+static uint8_t record[FADURINKO_TREE];
+
+/* Writes the tree with so many levels above the full tree, and its record. The last symbol stands
+ * behind the tree's end too. */
+static void write_record(size_t spine)
+{
+    memset(tree, 0, spine);
+    tree_length = spine;
+    put_full_tree(FADURINKO_DEPTH - SPINE, ABSENT);
+    for (size_t level = 1; level < spine; level++)
+        put_full_tree(8, ABSENT);
+    tree_length++;
+    memset(tree + tree_length - 1, ABSENT, 3);
+    for (size_t i = 0; i < tree_length; i++)
+        record[i] = tree[i] == ABSENT ? 0xff : tree[i];
 }
 
 /* ---- The calls. Each leaves its number in `number`. */
@@ -167,6 +226,36 @@ static void call_find(void)
 static void call_judge_opened(void)
 {
     number = fadurinko_judge_in(&table, answer);
+}
+
+static void call_record_word(void)
+{
+    number = fadurinko_record_word_of(text, text_length, record, given_length, room, room_length, answer);
+}
+
+static void call_record_tree(void)
+{
+    number = fadurinko_record_tree_of(text, text_length, record, given_length, room, room_length, answer);
+}
+
+static void call_tree_record(void)
+{
+    number = fadurinko_tree_record_of(text, text_length, tree, given_length, room, room_length, answer);
+}
+
+static void call_record_word_opened(void)
+{
+    number = fadurinko_record_word_with(&table, &plan, record, given_length, room, room_length, answer);
+}
+
+static void call_record_tree_opened(void)
+{
+    number = fadurinko_record_tree_in(&table, record, given_length, room, room_length, answer);
+}
+
+static void call_tree_record_opened(void)
+{
+    number = fadurinko_tree_record_in(&table, tree, given_length, room, room_length, answer);
 }
 
 /* ---- What they take. */
@@ -227,6 +316,77 @@ static void measure_trees(const char *name, void (*call)(void), size_t bound)
     check_figure(name, most, bound);
 }
 
+/* A large record or its tree, with one byte changed and some bytes more or less than there are. */
+typedef struct given {
+    size_t spine, at;
+    uint8_t byte;
+    int more;
+    size_t room_length;
+    uint8_t number;
+} given;
+
+/* The most that a call takes for these. The bytes are the record or the tree, whichever it is given. */
+static void measure_given(const char *name, void (*call)(void), size_t bound, uint8_t *bytes,
+                          const given *cases, size_t count)
+{
+    size_t most = 0;
+    for (size_t i = 0; i < count; i++) {
+        write_record(cases[i].spine);
+        bytes[cases[i].at] = cases[i].byte;
+        given_length = (bytes == tree ? tree_length : tree_length - 1) + (size_t)cases[i].more;
+        room_length = cases[i].room_length;
+        size_t figure = stack_of(call);
+        expect(name, cases[i].number);
+        most = figure > most ? figure : most;
+    }
+    check_figure(name, most, bound);
+}
+
+/* A record with its word or tree, without room, left open, with a byte that is none, a second root, a
+ * level too many; a word has the first case too, a label that has no rule. */
+static const given RECORDS[] = {
+    {SPINE, SPINE + 12, NO_RULE - 1, 0, sizeof room, FADURINKO_NO_RULE},
+    {SPINE, 0, 0, 0, sizeof room, FADURINKO_YES},
+    {SPINE, 0, 0, 0, 0, FADURINKO_NO_ROOM},
+    {SPINE, 0, 0, -1, sizeof room, FADURINKO_NO_STREAM_CLOSE},
+    {SPINE, SECOND_CHILD - 1, ABSENT, 0, sizeof room, FADURINKO_NO_STREAM_BYTE},
+    {SPINE, SECOND_CHILD, 0, 1, sizeof room, FADURINKO_NO_SECOND_ROOT},
+    {SPINE + 1, 0, 0, 0, sizeof room, FADURINKO_NO_DEPTH},
+};
+
+/* A tree with its record, without room, cut, with a symbol that is none, a level too many, a symbol
+ * behind its end, and a root that has a sibling. */
+static const given IMAGES[] = {
+    {SPINE, 0, 0, 0, sizeof room, FADURINKO_YES},
+    {SPINE, 0, 0, 0, 0, FADURINKO_NO_ROOM},
+    {SPINE, 0, 0, -1, sizeof room, FADURINKO_NO_TREE_STOPS},
+    {SPINE, SECOND_CHILD, FADURINKO_SYMBOLS, 0, sizeof room, FADURINKO_NO_SYMBOL},
+    {SPINE + 1, 0, 0, 0, sizeof room, FADURINKO_NO_DEPTH},
+    {SPINE, 0, 0, 1, sizeof room, FADURINKO_NO_TREE_ENDED},
+    {SPINE, SECOND_CHILD, 0, 2, sizeof room, FADURINKO_NO_IMAGE},
+};
+#define RECORD_CASES (sizeof RECORDS / sizeof RECORDS[0])
+#define IMAGE_CASES (sizeof IMAGES / sizeof IMAGES[0])
+
+static void measure_records(void)
+{
+    write_record_text();
+    call_open();
+    expect("the table for records", FADURINKO_YES);
+    measure_given("fadurinko_record_word", call_record_word, FADURINKO_STACK_RECORD_WORD, record,
+                  RECORDS, RECORD_CASES);
+    measure_given("fadurinko_record_tree", call_record_tree, FADURINKO_STACK_RECORD_TREE, record,
+                  RECORDS + 1, RECORD_CASES - 1);
+    measure_given("fadurinko_tree_record", call_tree_record, FADURINKO_STACK_TREE_RECORD, tree, IMAGES,
+                  IMAGE_CASES);
+    measure_given("fadurinko_record_word_opened", call_record_word_opened,
+                  FADURINKO_STACK_RECORD_WORD_OPENED, record, RECORDS, RECORD_CASES);
+    measure_given("fadurinko_record_tree_opened", call_record_tree_opened,
+                  FADURINKO_STACK_RECORD_TREE_OPENED, record, RECORDS + 1, RECORD_CASES - 1);
+    measure_given("fadurinko_tree_record_opened", call_tree_record_opened,
+                  FADURINKO_STACK_TREE_RECORD_OPENED, tree, IMAGES, IMAGE_CASES);
+}
+
 int main(void)
 {
     write_text();
@@ -238,5 +398,6 @@ int main(void)
     measure("fadurinko_open", call_open, FADURINKO_STACK_OPEN);
     measure_trees("fadurinko_find", call_find, FADURINKO_STACK_FIND);
     measure("fadurinko_judge_opened", call_judge_opened, FADURINKO_STACK_JUDGE_OPENED);
+    measure_records();
     return wrong > 0;
 }

@@ -4,20 +4,23 @@
  *   gcc -std=c99 -Wall -Wextra -pedantic -O2 -pthread -Iinclude examples/c/threads.c target/staticlib/libfadurinko_c.a -o target/threads-in-c
  *   target/threads-in-c
  *
- * The table is only read; each thread lends a plan and a room of its own. It prints "N words on 2
- * threads as on one", or how many are others and exit status 1. */
+ * The table is only read; each thread lends a plan and a room of its own, and finds each word by a tree
+ * and by its record in turn. It prints "N words on 2 threads as on one", or how many are others and exit
+ * status 1. */
 
 #include <fadurinko.h>
 #include <pthread.h>
 #include <stdio.h>
 #include <string.h>
 
-/* A pair is written (left,right) and its leaves a and b: so each tree has a word of its own. */
-static const char TEXT[] = "0102\n0100\n0100\n0201000000\n030000012800012c000129\n"
-                           "0300010161\n0300020162\n04\n";
+/* The labels 0 and 1 write a(inside) and b(inside) and then what is beside them, and 2 is absent: so
+ * each record has a word of its own. */
+static const char TEXT[] = "0102\n0102\n0100\n0201000000\n0300000261280001290000\n"
+                           "0300010262280001290000\n03000200\n04\n";
 #define TEXT_LENGTH (sizeof TEXT - 1)
 
 #define TREES 64
+#define ABSENT 2
 #define SYMBOLS 4096  /* of a tree at most: 12 levels */
 #define ROOM (4 * SYMBOLS)
 #define THREADS 2
@@ -26,6 +29,8 @@ static const char TEXT[] = "0102\n0100\n0100\n0201000000\n030000012800012c000129
 static fadurinko_table opened;
 static uint8_t trees[TREES][SYMBOLS];
 static size_t tree_lengths[TREES];
+static uint8_t records[TREES][SYMBOLS];
+static size_t record_lengths[TREES];
 static uint8_t words[TREES][ROOM];
 static size_t word_lengths[TREES];
 
@@ -41,11 +46,19 @@ static void grow(size_t at, int levels)
 {
     unsigned bits = random_bits();
     int leaf = levels == 1 || bits < 16;
-    trees[at][tree_lengths[at]++] = leaf ? (uint8_t)(1 + bits % 2) : 0;
+    trees[at][tree_lengths[at]++] = leaf ? ABSENT : (uint8_t)(bits % 2);
     if (!leaf) {
         grow(at, levels - 1);
         grow(at, levels - 1);
     }
+}
+
+/* Puts a tree that is a record's: a root with elements inside and none beside it. */
+static void grow_root(size_t at)
+{
+    trees[at][tree_lengths[at]++] = 0;
+    grow(at, 11);
+    trees[at][tree_lengths[at]++] = ABSENT;
 }
 
 /* What a thread lends, and how many of its words were others. */
@@ -58,14 +71,23 @@ typedef struct worker {
 
 static worker workers[THREADS];
 
+/* The word of a tree, or of its record. */
+static uint8_t find(worker *mine, size_t at, int by_record, size_t *answer)
+{
+    if (by_record)
+        return fadurinko_record_word_with(mine->table, &mine->plan, records[at], record_lengths[at],
+                                          mine->room, ROOM, answer);
+    return fadurinko_find_with(mine->table, &mine->plan, trees[at], tree_lengths[at], mine->room, ROOM,
+                               answer);
+}
+
 /* Finds all words again and again. Each thread begins with another tree. */
 static void *find_all(void *given)
 {
     worker *mine = given;
     for (size_t i = 0; i < ROUNDS * TREES; i++) {
-        size_t at = (mine->first + i) % TREES, answer[FADURINKO_ANSWER];
-        uint8_t number = fadurinko_find_with(mine->table, &mine->plan, trees[at], tree_lengths[at],
-                                             mine->room, ROOM, answer);
+        size_t at = (mine->first + i / 2) % TREES, answer[FADURINKO_ANSWER];
+        uint8_t number = find(mine, at, i % 2 == 0, answer);
         if (number != FADURINKO_YES || answer[FADURINKO_LENGTH] != word_lengths[at]
             || memcmp(mine->room, words[at], word_lengths[at]) != 0)
             mine->others++;
@@ -73,17 +95,22 @@ static void *find_all(void *given)
     return NULL;
 }
 
-/* The words on one thread, each by the text itself. */
+/* The words and the records on one thread, each by the text itself. */
 static int find_first(void)
 {
     size_t answer[FADURINKO_ANSWER];
     for (size_t at = 0; at < TREES; at++) {
-        grow(at, 12);
+        grow_root(at);
         uint8_t number = fadurinko_word_of((const uint8_t *)TEXT, TEXT_LENGTH, trees[at],
                                            tree_lengths[at], words[at], ROOM, answer);
         if (number != FADURINKO_YES)
             return 0;
         word_lengths[at] = answer[FADURINKO_LENGTH];
+        number = fadurinko_tree_record_of((const uint8_t *)TEXT, TEXT_LENGTH, trees[at],
+                                          tree_lengths[at], records[at], SYMBOLS, answer);
+        if (number != FADURINKO_YES)
+            return 0;
+        record_lengths[at] = answer[FADURINKO_LENGTH];
     }
     return 1;
 }

@@ -1,13 +1,13 @@
 //! The calls as the archive exports them, with everything lent by the caller: nothing allocates.
 //!
 //! Each returns a number, 0 for a yes, and writes every entry of the [`Answer`] that it is lent. On a
-//! no, no other byte changes but in the plan, which is scratch. The crate's own functions say the same more
-//! handily; these are for a caller that has no heap or keeps many tables in memory of its own.
+//! no, no other byte changes but in the scratch (plan and tree). The crate's own functions say the same
+//! more handily; these are for a caller that has no heap or keeps many tables in memory of its own.
 //!
 //! All of them are safe to call with any bytes: the proofs ask nothing of what is lent. What `find`
-//! and `judge_opened` answer means something only for arrays that `open` wrote. Whatever stands in
-//! them, the calls read and write only what is lent, and their work is linear in the tree, the rules
-//! and the room (milliseconds); the room's bytes are then left open.
+//! and the calls that end in `_opened` answer means something only for arrays that `open` wrote.
+//! Whatever stands in them, the calls read and write only what is lent, and their work is linear in the
+//! tree or record, the rules and the room (milliseconds); the room's bytes are then left open.
 //!
 //! What is lent to be written overlaps with nothing else, since the references say so. This does
 //! not compile:
@@ -28,7 +28,7 @@
 //! assert_eq!(room[..answer.length], bytes);
 //! ```
 
-use crate::limit::{ANSWER, FRAMES, NUMBERS, PLAN};
+use crate::limit::{ANSWER, FRAMES, NUMBERS, PLAN, TREE};
 
 /// What a call hands out besides its number: one small array, whose entries have names. Those that no
 /// call has a use for are 0 and have none, so that a later release adds to an answer and breaks no
@@ -38,7 +38,7 @@ use crate::limit::{ANSWER, FRAMES, NUMBERS, PLAN};
 pub struct Answer {
     /// The place of a no; 0 for a yes.
     pub place: usize,
-    /// Letters of the word, bytes of the form; 0 for a no.
+    /// Letters of the word, bytes of the form, tree or record; 0 for a no.
     pub length: usize,
     /// The word's terms; 0 for a no.
     pub terms: usize,
@@ -65,7 +65,7 @@ impl From<[usize; ANSWER]> for Answer {
 }
 
 mod exported {
-    use super::{Answer, FRAMES, NUMBERS, PLAN};
+    use super::{Answer, FRAMES, NUMBERS, PLAN, TREE};
 
     // The declarations of include/fadurinko.h.
     extern "C" {
@@ -113,6 +113,62 @@ mod exported {
         pub fn fadurinko_judge_opened(
             frames: *const [u8; FRAMES],
             numbers: *const [u64; NUMBERS],
+            answer: *mut Answer,
+        ) -> u8;
+        pub fn fadurinko_record_word(
+            text: *const u8,
+            text_length: usize,
+            record: *const u8,
+            record_length: usize,
+            room: *mut u8,
+            room_length: usize,
+            answer: *mut Answer,
+        ) -> u8;
+        pub fn fadurinko_record_tree(
+            text: *const u8,
+            text_length: usize,
+            record: *const u8,
+            record_length: usize,
+            room: *mut u8,
+            room_length: usize,
+            answer: *mut Answer,
+        ) -> u8;
+        pub fn fadurinko_tree_record(
+            text: *const u8,
+            text_length: usize,
+            tree: *const u8,
+            tree_length: usize,
+            room: *mut u8,
+            room_length: usize,
+            answer: *mut Answer,
+        ) -> u8;
+        pub fn fadurinko_record_word_opened(
+            frames: *const [u8; FRAMES],
+            numbers: *const [u64; NUMBERS],
+            record: *const u8,
+            record_length: usize,
+            tree: *mut [u8; TREE],
+            plan: *mut [u32; PLAN],
+            room: *mut u8,
+            room_length: usize,
+            answer: *mut Answer,
+        ) -> u8;
+        pub fn fadurinko_record_tree_opened(
+            frames: *const [u8; FRAMES],
+            numbers: *const [u64; NUMBERS],
+            record: *const u8,
+            record_length: usize,
+            room: *mut u8,
+            room_length: usize,
+            answer: *mut Answer,
+        ) -> u8;
+        pub fn fadurinko_tree_record_opened(
+            frames: *const [u8; FRAMES],
+            numbers: *const [u64; NUMBERS],
+            tree: *const u8,
+            tree_length: usize,
+            room: *mut u8,
+            room_length: usize,
             answer: *mut Answer,
         ) -> u8;
     }
@@ -211,4 +267,123 @@ pub fn find(
 pub fn judge_opened(frames: &[u8; FRAMES], numbers: &[u64; NUMBERS], answer: &mut Answer) -> u8 {
     // SAFETY: as in `find`.
     unsafe { exported::fadurinko_judge_opened(frames, numbers, answer) }
+}
+
+/// The word of a record by a table text: `length` letters in the room and `terms` terms.
+pub fn record_word(text: &[u8], record: &[u8], room: &mut [u8], answer: &mut Answer) -> u8 {
+    // SAFETY: as in `word`.
+    unsafe {
+        exported::fadurinko_record_word(
+            text.as_ptr(),
+            text.len(),
+            record.as_ptr(),
+            record.len(),
+            room.as_mut_ptr(),
+            room.len(),
+            answer,
+        )
+    }
+}
+
+/// The tree of a record by a table text: `length` bytes in the room.
+pub fn record_tree(text: &[u8], record: &[u8], room: &mut [u8], answer: &mut Answer) -> u8 {
+    // SAFETY: as in `word`.
+    unsafe {
+        exported::fadurinko_record_tree(
+            text.as_ptr(),
+            text.len(),
+            record.as_ptr(),
+            record.len(),
+            room.as_mut_ptr(),
+            room.len(),
+            answer,
+        )
+    }
+}
+
+/// The record of a tree by a table text: `length` bytes in the room.
+pub fn tree_record(text: &[u8], tree: &[u8], room: &mut [u8], answer: &mut Answer) -> u8 {
+    // SAFETY: as in `word`.
+    unsafe {
+        exported::fadurinko_tree_record(
+            text.as_ptr(),
+            text.len(),
+            tree.as_ptr(),
+            tree.len(),
+            room.as_mut_ptr(),
+            room.len(),
+            answer,
+        )
+    }
+}
+
+/// The word of a record by an opened table: as [`record_word`]. Tree and plan are scratch: what stands
+/// in them makes no difference, and they are written to.
+pub fn record_word_opened(
+    frames: &[u8; FRAMES],
+    numbers: &[u64; NUMBERS],
+    record: &[u8],
+    tree: &mut [u8; TREE],
+    plan: &mut [u32; PLAN],
+    room: &mut [u8],
+    answer: &mut Answer,
+) -> u8 {
+    // SAFETY: as in `find`.
+    unsafe {
+        exported::fadurinko_record_word_opened(
+            frames,
+            numbers,
+            record.as_ptr(),
+            record.len(),
+            tree,
+            plan,
+            room.as_mut_ptr(),
+            room.len(),
+            answer,
+        )
+    }
+}
+
+/// The tree of a record by an opened table: as [`record_tree`].
+pub fn record_tree_opened(
+    frames: &[u8; FRAMES],
+    numbers: &[u64; NUMBERS],
+    record: &[u8],
+    room: &mut [u8],
+    answer: &mut Answer,
+) -> u8 {
+    // SAFETY: as in `find`.
+    unsafe {
+        exported::fadurinko_record_tree_opened(
+            frames,
+            numbers,
+            record.as_ptr(),
+            record.len(),
+            room.as_mut_ptr(),
+            room.len(),
+            answer,
+        )
+    }
+}
+
+/// The record of a tree by an opened table: as [`tree_record`].
+pub fn tree_record_opened(
+    frames: &[u8; FRAMES],
+    numbers: &[u64; NUMBERS],
+    tree: &[u8],
+    room: &mut [u8],
+    answer: &mut Answer,
+) -> u8 {
+    // SAFETY: as in `find`.
+    unsafe {
+        exported::fadurinko_tree_record_opened(
+            frames,
+            numbers,
+            tree.as_ptr(),
+            tree.len(),
+            room.as_mut_ptr(),
+            room.len(),
+            answer,
+        )
+    }
 }

@@ -1,4 +1,4 @@
-//! Rule tables: the word of a tree, the judgement, the form, the comparison.
+//! Rule tables: the word of a tree or of a record, the judgement, the form, the comparison.
 //!
 //! A rule table reads a tree from its root and writes a word. It is given as a text: lines of
 //! lowercase hexadecimal, a frame each (`01` a symbol's arity, `02` the initial rule, `03` a rule,
@@ -25,13 +25,36 @@
 //! # }
 //! ```
 //!
+//! A record is an element: a label and the elements inside it. In bytes its label opens it and `ff`
+//! closes it; the labels are the symbols but the last, which means "absent". It is read as a tree: an
+//! element is its label with two trees below it, the first element inside it and the next one beside it,
+//! and an absent one is the last symbol. So in a table for records all symbols have arity 2, and the last
+//! has 0.
+//!
+//! ```
+//! # fn main() -> Result<(), fadurinko::Refusal> {
+//! // The labels 0 clip, 1 scene and 2 take; 3 is absent. It is examples/records.table.
+//! let text = b"0102\n0102\n0102\n0100\n020404636c69700000\n0300000001000200\n\
+//!              03010106207363656e6503000100\n03010300\n03020300\n\
+//!              030302052b74616b6502000300\n03030300\n04\n";
+//! let mut table = fadurinko::OpenTable::open(text)?;
+//! // A clip of one scene with two takes.
+//! let record = b"\x00\x01\x02\xff\x02\xff\xff\xff";
+//! assert_eq!(table.record_word(record)?, b"clip scene+take+take");
+//! let tree = table.record_tree(record)?;
+//! assert_eq!(tree, [0, 1, 2, 3, 2, 3, 3, 3, 3]);
+//! assert_eq!(table.tree_record(&tree)?, record);
+//! # Ok(())
+//! # }
+//! ```
+//!
 //! The calls are linked from libfadurinko_c.a, which `rt staticlib fadurinko_c` writes in the folder
 //! of the repository (x86-64). The build looks for it in `target/staticlib` there, or in the folder
 //! that the variable `FADURINKO_LIB` names. This crate needs no other.
 //!
 //! Each no is a [`Refusal`] with a number and a place; its `Display` says what to do. How much stack a
-//! call takes at most is in [`limit`]: [`limit::STACK_WORD`] for a word by a text, which is the most,
-//! and [`limit::STACK_FIND`] for finding by an [`OpenTable`].
+//! call takes at most is in [`limit`]: [`limit::STACK_RECORD_WORD`] for the word of a record by a text,
+//! which is the most, and [`limit::STACK_FIND`] for finding by an [`OpenTable`].
 
 #![deny(missing_docs)]
 #![deny(unsafe_code)]
@@ -41,9 +64,13 @@ pub mod lent;
 pub mod limit;
 pub mod number;
 mod open_table;
+mod records;
 mod refusal;
 
 pub use open_table::{OpenTable, Plan};
+pub use records::{
+    record_tree, record_tree_into, record_word, record_word_into, tree_record, tree_record_into,
+};
 pub use refusal::{CompareRefusal, Refusal};
 
 use lent::Answer;
@@ -103,6 +130,17 @@ fn found(mut find: impl FnMut(&mut [u8]) -> Result<Word, Refusal>) -> Result<Vec
     }
 }
 
+/// What a call writes and answers the length of, in a list of that length; this much room is enough.
+fn written(
+    enough: usize,
+    write: impl FnOnce(&mut [u8]) -> Result<usize, Refusal>,
+) -> Result<Vec<u8>, Refusal> {
+    let mut room = vec![0; enough];
+    let length = write(&mut room)?;
+    room.truncate(length);
+    Ok(room)
+}
+
 /// The word of a tree by a table text, or why it has none (1 to 11). For more than one tree open the
 /// table once: [`OpenTable`].
 ///
@@ -142,10 +180,7 @@ pub fn judge(text: &[u8]) -> Result<(), Refusal> {
 /// ```
 pub fn form(text: &[u8]) -> Result<Vec<u8>, Refusal> {
     // A form is never longer than its text.
-    let mut room = vec![0; text.len().min(limit::TEXT)];
-    let length = form_into(text, &mut room)?;
-    room.truncate(length);
-    Ok(room)
+    written(text.len().min(limit::TEXT), |room| form_into(text, room))
 }
 
 /// Puts the form of a table text into the first bytes of a lent room and answers its length, or says

@@ -29,8 +29,8 @@ pub const PLAN: usize = 32_768;
 /// Entries of an answer, which [`crate::lent::Answer`] names.
 pub const ANSWER: usize = 8;
 
-/// Bytes of stack that a word by a text takes at most. This and the next six are the bounds that the C
-/// header gives for the linked calls, as `examples/c/stack.c` measures them.
+/// Bytes of stack that a word by a text takes at most. This and the next twelve are the bounds that the
+/// C header gives for the linked calls, as `examples/c/stack.c` measures them.
 pub const STACK_WORD: usize = 204_800;
 /// Bytes of stack that a judgement by a text takes at most.
 pub const STACK_JUDGE: usize = 65_536;
@@ -44,3 +44,15 @@ pub const STACK_OPEN: usize = 28_672;
 pub const STACK_FIND: usize = 16_384;
 /// Bytes of stack that the judgement of an opened table takes at most.
 pub const STACK_JUDGE_OPENED: usize = 1_536;
+/// Bytes of stack that the word of a record by a text takes at most.
+pub const STACK_RECORD_WORD: usize = 241_664;
+/// Bytes of stack that the tree of a record by a text takes at most.
+pub const STACK_RECORD_TREE: usize = 65_536;
+/// Bytes of stack that the record of a tree by a text takes at most.
+pub const STACK_TREE_RECORD: usize = 65_536;
+/// Bytes of stack that the word of a record by an opened table takes at most.
+pub const STACK_RECORD_WORD_OPENED: usize = 16_384;
+/// Bytes of stack that the tree of a record by an opened table takes at most.
+pub const STACK_RECORD_TREE_OPENED: usize = 512;
+/// Bytes of stack that the record of a tree by an opened table takes at most.
+pub const STACK_TREE_RECORD_OPENED: usize = 12_288;

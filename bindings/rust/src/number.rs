@@ -38,3 +38,13 @@ pub const INITIAL: u8 = 17;
 pub const EARLIEST_RULE: u8 = 18;
 /// The symbol lists of two tables differ; place: the first index where they do.
 pub const SYMBOL_LISTS: u8 = 19;
+/// The symbol list is not one for records; place: the first index with a wrong arity.
+pub const RECORD_SYMBOLS: u8 = 20;
+/// A byte of a record is neither a label nor ff; place: its position, as for the next two.
+pub const STREAM_BYTE: u8 = 21;
+/// A close without an open element, or a record that is empty or left open (place: its length).
+pub const STREAM_CLOSE: u8 = 22;
+/// A second root.
+pub const SECOND_ROOT: u8 = 23;
+/// The tree is no record's image; place: 0 for a lone leaf, else that of the root's second child.
+pub const IMAGE: u8 = 24;

@@ -3,18 +3,26 @@
 use std::fmt;
 
 use crate::lent;
-use crate::limit::{FRAMES, NUMBERS, PLAN};
-use crate::{answered, found, word_found, Refusal, Word};
+use crate::limit::{FRAMES, NUMBERS, PLAN, TREE};
+use crate::records::{record_room, tree_room};
+use crate::{answered, found, word_found, written, Refusal, Word};
 
-/// Scratch for finding words: 128 kilobytes on the heap. What stands in it makes no difference, so one
-/// plan serves any number of tables and trees, one after the other.
+/// Scratch for finding words: 160 kilobytes on the heap. What stands in it makes no difference, so one
+/// plan serves any number of tables, trees and records, one after the other.
 #[derive(Clone)]
-pub struct Plan(Box<[u32; PLAN]>);
+pub struct Plan {
+    numbers: Box<[u32; PLAN]>,
+    tree: Box<[u8; TREE]>,
+}
 
 impl Plan {
-    /// A plan to lend to [`OpenTable::word_with`] and [`OpenTable::word_into_with`].
+    /// A plan to lend to [`OpenTable::word_with`], [`OpenTable::record_word_with`] and those that put a
+    /// word into a room.
     pub fn new() -> Plan {
-        Plan(boxed())
+        Plan {
+            numbers: boxed(),
+            tree: boxed(),
+        }
     }
 }
 
@@ -40,16 +48,30 @@ struct Arrays {
 impl Arrays {
     fn find(&self, tree: &[u8], plan: &mut Plan, room: &mut [u8]) -> Result<Word, Refusal> {
         let Arrays { frames, numbers } = self;
-        answered(|answer| lent::find(frames, numbers, tree, &mut plan.0, room, answer))
+        answered(|answer| lent::find(frames, numbers, tree, &mut plan.numbers, room, answer))
             .map(word_found)
+    }
+
+    fn record_word(
+        &self,
+        record: &[u8],
+        plan: &mut Plan,
+        room: &mut [u8],
+    ) -> Result<Word, Refusal> {
+        let Arrays { frames, numbers } = self;
+        let (tree, plan) = (&mut plan.tree, &mut plan.numbers);
+        answered(|answer| {
+            lent::record_word_opened(frames, numbers, record, tree, plan, room, answer)
+        })
+        .map(word_found)
     }
 }
 
-/// A table that is opened once and finds the words of many trees.
+/// A table that is opened once and finds the words of many trees and records.
 ///
-/// It owns all that it needs (about 180 kilobytes on the heap) and lets the text go. Finding a word
-/// needs a plan, which is scratch. [`OpenTable::word`] writes to a plan that the table owns too, so it
-/// takes the table for itself:
+/// It owns all that it needs (about 213 kilobytes on the heap) and lets the text go. Finding a word
+/// needs a plan, which is scratch. [`OpenTable::word`] and [`OpenTable::record_word`] write to a plan
+/// that the table owns too, so they take the table for themselves:
 ///
 /// ```
 /// # fn main() -> Result<(), fadurinko::Refusal> {
@@ -62,8 +84,8 @@ impl Arrays {
 /// # }
 /// ```
 ///
-/// [`OpenTable::word_with`] is lent a [`Plan`] and only reads the table, so that any number of threads
-/// can share one table:
+/// [`OpenTable::word_with`] and [`OpenTable::record_word_with`] are lent a [`Plan`] and only read the
+/// table, so that any number of threads can share one table:
 ///
 /// ```
 /// # fn main() -> Result<(), fadurinko::Refusal> {
@@ -201,5 +223,109 @@ impl OpenTable {
     pub fn judge(&self) -> Result<(), Refusal> {
         let Arrays { frames, numbers } = &self.arrays;
         answered(|answer| lent::judge_opened(frames, numbers, answer)).map(|_| ())
+    }
+    /// Puts the word of a record into the first bytes of a lent room, or says why not (20 to 23, then
+    /// 6, 10, 9 and 12). The rest of the room stays as it was, and so does all of it on a no. Nothing is
+    /// allocated.
+    ///
+    /// ```
+    /// # fn main() -> Result<(), fadurinko::Refusal> {
+    /// let text = b"0102\n0100\n0201000000\n03000001280001290000\n03000100\n04\n";
+    /// let mut table = fadurinko::OpenTable::open(text)?;
+    /// let mut room = [b'.'; 6];
+    /// let word = table.record_word_into(&[0, 0, 0xff, 0xff], &mut room)?;
+    /// assert_eq!((word.length, word.terms), (4, 1));
+    /// assert_eq!(&room, b"(())..");
+    /// # Ok(())
+    /// # }
+    /// ```
+    pub fn record_word_into(&mut self, record: &[u8], room: &mut [u8]) -> Result<Word, Refusal> {
+        self.arrays.record_word(record, &mut self.plan, room)
+    }
+
+    /// The word of a record, or why it has none (20 to 23, then 6, 10 and 9): the word that the table
+    /// gives its tree.
+    ///
+    /// ```
+    /// # fn main() -> Result<(), fadurinko::Refusal> {
+    /// let text = b"0102\n0100\n0201000000\n03000001280001290000\n03000100\n04\n";
+    /// let mut table = fadurinko::OpenTable::open(text)?;
+    /// assert_eq!(table.record_word(&[0, 0, 0xff, 0, 0xff, 0xff])?, b"(()())");
+    /// let no = table.record_word(&[0, 0xff, 0, 0xff]).unwrap_err();
+    /// assert_eq!((no.number, no.place), (fadurinko::number::SECOND_ROOT, 2));
+    /// # Ok(())
+    /// # }
+    /// ```
+    pub fn record_word(&mut self, record: &[u8]) -> Result<Vec<u8>, Refusal> {
+        found(|room| self.record_word_into(record, room))
+    }
+
+    /// As [`OpenTable::record_word_into`], with a plan that is lent apart: the table is only read.
+    pub fn record_word_into_with(
+        &self,
+        record: &[u8],
+        plan: &mut Plan,
+        room: &mut [u8],
+    ) -> Result<Word, Refusal> {
+        self.arrays.record_word(record, plan, room)
+    }
+
+    /// As [`OpenTable::record_word`], with a plan that is lent apart: the table is only read.
+    ///
+    /// ```
+    /// # fn main() -> Result<(), fadurinko::Refusal> {
+    /// let text = b"0102\n0100\n0201000000\n03000001280001290000\n03000100\n04\n";
+    /// let table = fadurinko::OpenTable::open(text)?;
+    /// let mut plan = fadurinko::Plan::new();
+    /// assert_eq!(table.record_word_with(&[0, 0xff], &mut plan)?, b"()");
+    /// assert_eq!(table.word_with(&[0, 1, 1], &mut plan)?, b"()");
+    /// # Ok(())
+    /// # }
+    /// ```
+    pub fn record_word_with(&self, record: &[u8], plan: &mut Plan) -> Result<Vec<u8>, Refusal> {
+        found(|room| self.record_word_into_with(record, plan, room))
+    }
+
+    /// Puts the tree of a record into the first bytes of a lent room and answers its length, or says
+    /// why not (20 to 23, then 6, 10 and 12). The rest of the room stays as it was, and so does all of
+    /// it on a no. Nothing is allocated.
+    pub fn record_tree_into(&self, record: &[u8], room: &mut [u8]) -> Result<usize, Refusal> {
+        let Arrays { frames, numbers } = &self.arrays;
+        answered(|answer| lent::record_tree_opened(frames, numbers, record, room, answer))
+            .map(|answer| answer.length)
+    }
+
+    /// The tree of a record, or why it has none (20 to 23, then 6 and 10). It has one byte more than
+    /// the record, and [`OpenTable::tree_record`] turns it back.
+    ///
+    /// ```
+    /// # fn main() -> Result<(), fadurinko::Refusal> {
+    /// let text = b"0102\n0100\n0201000000\n03000001280001290000\n03000100\n04\n";
+    /// let table = fadurinko::OpenTable::open(text)?;
+    /// let tree = table.record_tree(&[0, 0, 0xff, 0, 0xff, 0xff])?;
+    /// assert_eq!(tree, [0, 0, 1, 0, 1, 1, 1]);
+    /// assert_eq!(table.tree_record(&tree)?, [0, 0, 0xff, 0, 0xff, 0xff]);
+    /// # Ok(())
+    /// # }
+    /// ```
+    pub fn record_tree(&self, record: &[u8]) -> Result<Vec<u8>, Refusal> {
+        written(tree_room(record), |room| {
+            self.record_tree_into(record, room)
+        })
+    }
+
+    /// Puts the record of a tree into the first bytes of a lent room and answers its length, or says
+    /// why not (20, then 6, 7, 8, 10, 11, 24 and 12). The rest of the room stays as it was, and so does
+    /// all of it on a no. Nothing is allocated.
+    pub fn tree_record_into(&self, tree: &[u8], room: &mut [u8]) -> Result<usize, Refusal> {
+        let Arrays { frames, numbers } = &self.arrays;
+        answered(|answer| lent::tree_record_opened(frames, numbers, tree, room, answer))
+            .map(|answer| answer.length)
+    }
+
+    /// The record of a tree, or why it has none (20, then 6, 7, 8, 10, 11 and 24). It has one byte less
+    /// than the tree, and [`OpenTable::record_tree`] turns it back.
+    pub fn tree_record(&self, tree: &[u8]) -> Result<Vec<u8>, Refusal> {
+        written(record_room(tree), |room| self.tree_record_into(tree, room))
     }
 }

@@ -3,7 +3,7 @@
 use std::error::Error;
 use std::fmt;
 
-/// A no: its number, 1 to 19, and its place. Nothing was written.
+/// A no: its number, 1 to 24, and its place. Nothing was written.
 ///
 /// ```
 /// let refusal = fadurinko::judge(b"01").unwrap_err();
@@ -45,6 +45,11 @@ impl Refusal {
             17 => "the table is late: letters of the initial rule could stand further left",
             18 => "the table is late: letters of a rule could stand further left",
             19 => "the symbol lists of the two tables differ",
+            20 => "the symbol list is not one for records",
+            21 => "a byte of the record is neither a label nor ff",
+            22 => "an element is closed that is not open, or the record is empty or left open",
+            23 => "a second root stands behind the record's end",
+            24 => "the tree is no record's image",
             _ => "no such number is given",
         }
     }
@@ -58,8 +63,16 @@ impl Refusal {
                 "look at the line that starts at byte {place} of the table text{}",
                 self.line_advice()
             ),
-            6 => write!(out, "give 1 to 32768 symbols"),
-            7 | 10 => write!(out, "look at the symbol at {place}"),
+            6 => write!(
+                out,
+                "give 1 to 32768 symbols, or a record of 1 to 16383 elements"
+            ),
+            7 => write!(out, "look at the symbol at {place}"),
+            10 => write!(
+                out,
+                "look at the symbol at {place}; in a record each element stands a level below the one that \
+                 it is inside of or beside"
+            ),
             8 => write!(out, "its {place} symbols need more trees below them"),
             9 => write!(
                 out,
@@ -69,6 +82,7 @@ impl Refusal {
             12 => write!(out, "lend {place} bytes"),
             13..=18 => self.table_advice(out),
             19 => write!(out, "look at the symbol with index {place}, counted from 0"),
+            20..=24 => self.record_advice(out),
             _ => write!(
                 out,
                 "the archive is not the one that this crate was made for"
@@ -86,6 +100,37 @@ impl Refusal {
             }
             5 => ": compare the word lengths with the letters, and the children with the symbol's arity",
             _ => "",
+        }
+    }
+
+    /// What to do about a record, or about a table or tree that is to be one.
+    fn record_advice(&self, out: &mut fmt::Formatter<'_>) -> fmt::Result {
+        let place = self.place;
+        match self.number {
+            20 => write!(
+                out,
+                "look at the symbol with index {place}, counted from 0: the last must have arity 0 and \
+                 all others 2"
+            ),
+            21 => write!(
+                out,
+                "look at the byte at {place}: the labels are the numbers below that of the last symbol"
+            ),
+            22 => write!(
+                out,
+                "look at the ff at {place}, which is one too many; if the record ends there, it is empty or \
+                 lacks an ff for each open element"
+            ),
+            23 => write!(
+                out,
+                "cut the record before the byte at {place} and give the rest as another one"
+            ),
+            _ if place == 0 => write!(out, "it is a lone leaf, which stands for no element"),
+            _ => write!(
+                out,
+                "another element stands beside its root: the symbol at {place} must be the last one of the \
+                 table's list"
+            ),
         }
     }
 

@@ -3,8 +3,8 @@
 
 mod common;
 
-use common::{m1, m1_earliest, m2, text, Rule, T};
-use fadurinko::{judge, word, Refusal};
+use common::{brackets, m1, m1_earliest, m2, text, Rule, CLOSE, T};
+use fadurinko::{judge, record_tree, record_word, tree_record, word, Refusal};
 
 const QUIET: (&[u8], u8, &[u8]) = (b"", 0, b"");
 
@@ -163,6 +163,87 @@ fn a_letter_is_moved_to_the_left() {
         format!(
             "in the rule with index 7, counted from 0, move the letter in front of the child; {turned}"
         )
+    );
+}
+
+#[test]
+fn a_symbol_list_becomes_one_for_records() {
+    let table = |arities: &[u8]| text(arities, 1, QUIET, &[]);
+    let refused = record_tree(&table(&[2, 0, 2, 0]), &[1, CLOSE]);
+    let refusal = Refusal {
+        number: 20,
+        place: 1,
+    };
+    assert_eq!(refused, Err(refusal));
+    let mended = record_tree(&table(&[2, 2, 2, 0]), &[1, CLOSE]);
+    assert_eq!(mended.unwrap(), [1, 3, 3]);
+    assert_eq!(
+        advice(20),
+        "look at the symbol with index 7, counted from 0: the last must have arity 0 and all others 2"
+    );
+}
+
+/// The record was refused so, and the mended one has a word.
+fn mends_record(record: &[u8], number: u8, place: usize, mended: &[u8]) {
+    let text = brackets();
+    assert_eq!(record_word(&text, record), Err(Refusal { number, place }));
+    assert!(record_word(&text, mended).is_ok());
+}
+
+#[test]
+fn a_record_is_mended() {
+    mends_record(&[0, 2, CLOSE, CLOSE], 21, 1, &[0, 1, CLOSE, CLOSE]);
+    assert_eq!(
+        advice(21),
+        "look at the byte at 7: the labels are the numbers below that of the last symbol"
+    );
+    mends_record(&[0, CLOSE, CLOSE], 22, 2, &[0, CLOSE]);
+    mends_record(&[0, 1, 1], 22, 3, &[0, 1, 1, CLOSE, CLOSE, CLOSE]);
+    assert_eq!(
+        advice(22),
+        "look at the ff at 7, which is one too many; if the record ends there, it is empty or lacks an \
+         ff for each open element"
+    );
+    let two = [0, CLOSE, 1, CLOSE];
+    mends_record(&two, 23, 2, &two[..2]);
+    mends_record(&two, 23, 2, &two[2..]);
+    assert_eq!(
+        advice(23),
+        "cut the record before the byte at 7 and give the rest as another one"
+    );
+}
+
+#[test]
+fn a_tree_becomes_that_of_a_record() {
+    let text = brackets();
+    let refusal = |place| Refusal { number: 24, place };
+    let beside = [0, 1, 2, 2, 1, 2, 2];
+    assert_eq!(tree_record(&text, &beside), Err(refusal(4)));
+    let alone = [&beside[..4], &[2]].concat();
+    assert_eq!(tree_record(&text, &alone).unwrap(), [0, 1, CLOSE, CLOSE]);
+    assert_eq!(
+        advice(24),
+        "another element stands beside its root: the symbol at 7 must be the last one of the table's \
+         list"
+    );
+    assert_eq!(tree_record(&text, &[2]), Err(refusal(0)));
+    assert_eq!(
+        refusal(0).to_string(),
+        "no 24 0: the tree is no record's image; it is a lone leaf, which stands for no element"
+    );
+}
+
+/// The tree's own numbers say what they mean for a record.
+#[test]
+fn the_limits_of_a_record() {
+    assert_eq!(
+        advice(6),
+        "give 1 to 32768 symbols, or a record of 1 to 16383 elements"
+    );
+    assert_eq!(
+        advice(10),
+        "look at the symbol at 7; in a record each element stands a level below the one that it is \
+         inside of or beside"
     );
 }
 

@@ -43,6 +43,12 @@ fn limits() {
         ("STACK_OPEN", limit::STACK_OPEN),
         ("STACK_FIND", limit::STACK_FIND),
         ("STACK_JUDGE_OPENED", limit::STACK_JUDGE_OPENED),
+        ("STACK_RECORD_WORD", limit::STACK_RECORD_WORD),
+        ("STACK_RECORD_TREE", limit::STACK_RECORD_TREE),
+        ("STACK_TREE_RECORD", limit::STACK_TREE_RECORD),
+        ("STACK_RECORD_WORD_OPENED", limit::STACK_RECORD_WORD_OPENED),
+        ("STACK_RECORD_TREE_OPENED", limit::STACK_RECORD_TREE_OPENED),
+        ("STACK_TREE_RECORD_OPENED", limit::STACK_TREE_RECORD_OPENED),
     ];
     for (name, value) in limits {
         assert_eq!(
@@ -76,8 +82,13 @@ fn numbers() {
         ("INITIAL", number::INITIAL),
         ("EARLIEST_RULE", number::EARLIEST_RULE),
         ("SYMBOL_LISTS", number::SYMBOL_LISTS),
+        ("RECORD_SYMBOLS", number::RECORD_SYMBOLS),
+        ("STREAM_BYTE", number::STREAM_BYTE),
+        ("STREAM_CLOSE", number::STREAM_CLOSE),
+        ("SECOND_ROOT", number::SECOND_ROOT),
+        ("IMAGE", number::IMAGE),
     ];
-    assert!(numbers.iter().map(|&(_, value)| value).eq(1..=19));
+    assert!(numbers.iter().map(|&(_, value)| value).eq(1..=24));
     for (name, value) in numbers {
         let start = format!("FADURINKO_NO_{name} = ");
         assert_eq!(value_behind(&header, &start), usize::from(value), "{name}");

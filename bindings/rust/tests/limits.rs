@@ -2,8 +2,11 @@
 
 mod common;
 
-use common::{full_tree, own_form, text, wordy, Rule, T};
-use fadurinko::{compare, form, judge, limit, word, Comparison, OpenTable, Plan, Refusal};
+use common::{full_tree, own_form, text, wordy, Rule, RECORDS, T};
+use fadurinko::{
+    compare, form, judge, limit, record_tree, record_word, tree_record, word, Comparison,
+    OpenTable, Plan, Refusal,
+};
 
 fn no<A>(number: u8, place: usize) -> Result<A, Refusal> {
     Err(Refusal { number, place })
@@ -27,6 +30,12 @@ fn empty_slices() {
         }
     );
     assert_eq!(OpenTable::open(T).unwrap().word(&[]), no(6, 0));
+    assert_eq!(record_word(&[], &[]), no(1, 0));
+    assert_eq!(record_tree(&[], &[]), no(1, 0));
+    assert_eq!(tree_record(&[], &[]), no(1, 0));
+    assert_eq!(record_word(RECORDS, &[]), no(22, 0));
+    assert_eq!(record_tree(RECORDS, &[]), no(22, 0));
+    assert_eq!(tree_record(RECORDS, &[]), no(6, 0));
     let refused = compare(&[], &[]).unwrap_err();
     assert_eq!(
         (refused.table, refused.refusal.number, refused.refusal.place),

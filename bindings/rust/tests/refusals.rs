@@ -1,10 +1,12 @@
-//! Every number from 1 to 19, by every call that can give it, and what it says in words.
+//! Every number from 1 to 24, by every call that can give it, and what it says in words.
 
 mod common;
 
-use common::{text, Rule, T};
+use common::{text, Rule, CLOSE, RECORDS, T};
 use fadurinko::{
-    compare, form, form_into, judge, number, word, word_into, CompareRefusal, OpenTable, Refusal,
+    compare, form, form_into, judge, number, record_tree, record_tree_into, record_word,
+    record_word_into, tree_record, tree_record_into, word, word_into, CompareRefusal, OpenTable,
+    Plan, Refusal,
 };
 use std::collections::BTreeSet;
 
@@ -90,6 +92,43 @@ fn refused_trees() -> Vec<(Vec<u8>, u8, usize)> {
     ]
 }
 
+/// A table and a record with the refusal that its word and its tree have (20 to 23, 6, 10).
+fn refused_records() -> Vec<(&'static [u8], Vec<u8>, u8, usize)> {
+    vec![
+        (T, vec![0, CLOSE], 20, 1),
+        (T, vec![], 20, 1),
+        (RECORDS, vec![0, 3, CLOSE], 21, 1),
+        (RECORDS, vec![0, CLOSE, 3], 21, 2),
+        (RECORDS, vec![], 22, 0),
+        (RECORDS, vec![CLOSE], 22, 0),
+        (RECORDS, vec![0, 1, CLOSE], 22, 3),
+        (RECORDS, vec![0, CLOSE, CLOSE], 22, 2),
+        (RECORDS, vec![0, CLOSE, 0, CLOSE], 23, 2),
+        (RECORDS, [[0; 16_384], [CLOSE; 16_384]].concat(), 6, 0),
+        (RECORDS, [[0; 64], [CLOSE; 64]].concat(), 10, 64),
+    ]
+}
+
+/// A table and a tree with the refusal that its record has (20, 6 to 11 but for 9, 24).
+fn refused_images() -> Vec<(&'static [u8], Vec<u8>, u8, usize)> {
+    let trees = refused_trees().into_iter();
+    let shapeless = trees.filter(|&(_, number, _)| matches!(number, 6 | 8 | 10));
+    let mut all: Vec<_> = shapeless
+        .map(|(tree, number, place)| (RECORDS, tree, number, place))
+        .collect();
+    all.extend([
+        (T, vec![], 20, 1),
+        (T, vec![0, 1, 1], 20, 1),
+        (RECORDS, vec![4], 7, 0),
+        (RECORDS, vec![0, 3, CLOSE], 7, 2),
+        (RECORDS, vec![3, 3], 11, 1),
+        (RECORDS, vec![0, 3, 3, 255], 11, 3),
+        (RECORDS, vec![3], 24, 0),
+        (RECORDS, vec![0, 3, 1, 3, 3], 24, 2),
+    ]);
+    all
+}
+
 const FILL: u8 = 0xa5;
 
 /// A room for a call that is refused: none of its bytes may change.
@@ -112,6 +151,17 @@ fn table_texts() {
         assert_eq!(untouched(|room| word_into(&text, &[0], room)), expected);
         // The table comes before the tree.
         assert_eq!(word(&text, &[]), Err(expected));
+        assert_eq!(record_word(&text, &[]), Err(expected));
+        assert_eq!(record_tree(&text, &[]), Err(expected));
+        assert_eq!(tree_record(&text, &[]), Err(expected));
+        let record = [0, CLOSE];
+        for refusal in [
+            untouched(|room| record_word_into(&text, &record, room)),
+            untouched(|room| record_tree_into(&text, &record, room)),
+            untouched(|room| tree_record_into(&text, &[0, 1, 1], room)),
+        ] {
+            assert_eq!(refusal, expected);
+        }
     }
 }
 
@@ -139,6 +189,62 @@ fn trees() {
         assert_eq!(untouched(|room| table.word_into(&tree, room)), expected);
         // 12 comes last.
         assert_eq!(table.word_into(&tree, &mut []), Err(expected));
+    }
+}
+
+#[test]
+fn records() {
+    for (text, record, number, place) in refused_records() {
+        let expected = Refusal { number, place };
+        let mut table = OpenTable::open(text).unwrap();
+        let mut plan = Plan::new();
+        assert_eq!(record_word(text, &record), Err(expected));
+        assert_eq!(record_tree(text, &record), Err(expected));
+        assert_eq!(table.record_word(&record), Err(expected));
+        assert_eq!(table.record_word_with(&record, &mut plan), Err(expected));
+        assert_eq!(table.record_tree(&record), Err(expected));
+        for refusal in [
+            untouched(|room| record_word_into(text, &record, room)),
+            untouched(|room| record_tree_into(text, &record, room)),
+            untouched(|room| table.record_word_into(&record, room)),
+            untouched(|room| table.record_word_into_with(&record, &mut plan, room)),
+            untouched(|room| table.record_tree_into(&record, room)),
+        ] {
+            assert_eq!(refusal, expected);
+        }
+        // 12 comes last.
+        assert_eq!(table.record_word_into(&record, &mut []), Err(expected));
+        assert_eq!(table.record_tree_into(&record, &mut []), Err(expected));
+    }
+    // 9 only where the word is asked for, and before 12.
+    let (expected, strange) = (
+        Refusal {
+            number: 9,
+            place: 1,
+        },
+        [0, 2, CLOSE, CLOSE],
+    );
+    let mut table = OpenTable::open(RECORDS).unwrap();
+    assert_eq!(record_word(RECORDS, &strange), Err(expected));
+    assert_eq!(table.record_word_into(&strange, &mut []), Err(expected));
+    assert_eq!(table.record_tree(&strange).unwrap(), [0, 2, 3, 3, 3]);
+}
+
+#[test]
+fn images() {
+    for (text, tree, number, place) in refused_images() {
+        let expected = Refusal { number, place };
+        let table = OpenTable::open(text).unwrap();
+        assert_eq!(tree_record(text, &tree), Err(expected), "{tree:?}");
+        assert_eq!(table.tree_record(&tree), Err(expected));
+        for refusal in [
+            untouched(|room| tree_record_into(text, &tree, room)),
+            untouched(|room| table.tree_record_into(&tree, room)),
+        ] {
+            assert_eq!(refusal, expected);
+        }
+        // 12 comes last.
+        assert_eq!(table.tree_record_into(&tree, &mut []), Err(expected));
     }
 }
 
@@ -189,16 +295,19 @@ fn every_number_occurs_above() {
         .into_iter()
         .chain(not_earliest())
         .chain(refused_trees());
-    let numbers: BTreeSet<u8> = texts.map(|(_, number, _)| number).chain([12, 19]).collect();
-    assert_eq!(numbers, (1..=19).collect());
+    let records = refused_records().into_iter().chain(refused_images());
+    let records = records.map(|(_, _, number, _)| number);
+    let numbers = texts.map(|(_, number, _)| number).chain([12, 19]);
+    let numbers: BTreeSet<u8> = numbers.chain(records).collect();
+    assert_eq!(numbers, (1..=24).collect());
 }
 
 #[test]
 fn every_number_says_something_of_its_own() {
     let said = |number| Refusal { number, place: 77 }.to_string();
-    let all: BTreeSet<String> = (1..=19).map(said).collect();
-    assert_eq!(all.len(), 19);
-    for number in 1..=19 {
+    let all: BTreeSet<String> = (1..=24).map(said).collect();
+    assert_eq!(all.len(), 24);
+    for number in 1..=24 {
         assert!(said(number).starts_with(&format!("no {number} 77: ")));
         assert!(!said(number).contains(&said(0)["no 0 77: ".len()..]));
     }

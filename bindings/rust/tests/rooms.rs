@@ -2,55 +2,10 @@
 
 mod common;
 
+use common::room::{entries, in_a_room, is_guarded, lengths, noise, pattern, strange, GUARD};
 use common::{full_tree, m1_earliest, m2, own_form, text, wordy, T, T_FORM};
 use fadurinko::lent::{self, Answer};
-use fadurinko::{form_into, limit, word_into, OpenTable, Plan, Refusal, Word};
-
-/// Long enough for any copy that is done in pieces of 32.
-const GUARD: usize = 96;
-
-fn pattern(length: usize) -> Vec<u8> {
-    (0..length).map(|at| (at * 37 + 11) as u8 ^ 0xa5).collect()
-}
-
-/// Calls with a room of this length inside guard bytes. A yes must put `output` to its front; all
-/// other bytes stay as they were, and a room that is too short is number 12.
-fn in_a_room<A>(
-    length: usize,
-    output: &[u8],
-    yes: A,
-    call: impl FnOnce(&mut [u8]) -> Result<A, Refusal>,
-) where
-    A: PartialEq + std::fmt::Debug,
-{
-    let mut bytes = pattern(length + 2 * GUARD);
-    let mut expected = bytes.clone();
-    let answer = call(&mut bytes[GUARD..GUARD + length]);
-    if length < output.len() {
-        assert_eq!(
-            answer,
-            Err(Refusal {
-                number: 12,
-                place: output.len()
-            }),
-            "room {length}"
-        );
-    } else {
-        assert_eq!(answer, Ok(yes), "room {length}");
-        expected[GUARD..GUARD + output.len()].copy_from_slice(output);
-    }
-    assert!(
-        bytes == expected,
-        "bytes differ, room {length}, output {}",
-        output.len()
-    );
-}
-
-/// None, one, one and two too few, exact, and more.
-fn lengths(need: usize) -> Vec<usize> {
-    let around = need.saturating_sub(34)..=need + 34;
-    (0..=2).chain(around).chain([2 * need + 100]).collect()
-}
+use fadurinko::{form_into, limit, word_into, OpenTable, Plan, Word};
 
 fn word_in_every_room(text: &[u8], tree: &[u8], output: &[u8], terms: usize) {
     let mut table = OpenTable::open(text).unwrap();
@@ -175,16 +130,6 @@ fn a_refused_open_leaves_the_arrays() {
     }
 }
 
-/// What an earlier call may have left in an answer: no entry is 0.
-fn strange() -> Answer {
-    Answer::from([usize::MAX; limit::ANSWER])
-}
-
-/// The entries of an answer, of which those behind the table are 0.
-fn entries(place: usize, length: usize, terms: usize, same: usize, table: usize) -> Answer {
-    Answer::from([place, length, terms, same, table, 0, 0, 0])
-}
-
 /// Every call writes every entry, on a yes and on a no.
 #[test]
 fn every_entry_is_written() {
@@ -245,13 +190,7 @@ fn every_entry_is_written() {
 /// change, and every call comes to an end soon, whatever the numbers say.
 #[test]
 fn arrays_that_were_never_opened() {
-    let mut state = 0x9e37_79b9_7f4a_7c15_u64;
-    let mut next = move || {
-        state ^= state << 13;
-        state ^= state >> 7;
-        state ^= state << 17;
-        state
-    };
+    let mut next = noise();
     let mut frames = [0; limit::FRAMES];
     let mut numbers = [0; limit::NUMBERS];
     let mut plan = [u32::MAX; limit::PLAN];
@@ -269,10 +208,7 @@ fn arrays_that_were_never_opened() {
         let lent_room = &mut bytes[GUARD..GUARD + room];
         let mut answer = strange();
         lent::find(&frames, &numbers, &tree, &mut plan, lent_room, &mut answer);
-        let before = pattern(room + 2 * GUARD);
-        assert!(
-            bytes[..GUARD] == before[..GUARD] && bytes[GUARD + room..] == before[GUARD + room..]
-        );
+        assert!(is_guarded(&bytes));
         lent::judge_opened(&frames, &numbers, &mut answer);
     }
 }

@@ -1,11 +1,19 @@
 //! Tables for the tests, written out as texts.
 #![allow(dead_code)]
 
+pub mod room;
+
 /// The table on the left of document 01's listing, and what the listing prints.
 pub const T: &[u8] = b"0102\n0100\n0100\n0203000200\n03000100\n0300020178\n03010100\n0301020178\n\
     0302000000012c0100\n04\n";
 pub const T_FORM: &[u8] =
     b"0102\n0100\n0100\n0202000000\n0300000001012c0100\n03010100\n0301020178\n04\n";
+
+/// The example table for records: the labels 0 clip, 1 scene and 2 take; 3 is absent.
+pub const RECORDS: &[u8] = include_bytes!("../../../../examples/records.table");
+
+/// The byte that closes an element of a record.
+pub const CLOSE: u8 = 0xff;
 
 /// A rule: state, symbol, first word, then each child's state and word.
 pub type Rule<'words> = (u8, u8, &'words [u8], Vec<(u8, &'words [u8])>);
@@ -123,6 +131,23 @@ pub fn wordy(letters: usize) -> Vec<u8> {
         (0, 2, word(5), vec![]),
     ];
     text(&[2, 1, 0], 1, (word(6), 0, word(7)), &rules)
+}
+
+/// A table for records with the labels 0 and 1, which write a and b, what is inside between brackets,
+/// and then what is beside them; 2 is absent.
+pub fn brackets() -> Vec<u8> {
+    let label = |symbol, word| -> Rule<'static> { (0, symbol, word, vec![(0, b")"), (0, b"")]) };
+    let rules = [label(0, b"a("), label(1, b"b("), (0, 2, b"", vec![])];
+    text(&[2, 2, 0], 1, (b"", 0, b""), &rules)
+}
+
+/// The record of which these bytes are the tree, if they are one's, where this symbol is the last: it
+/// closes an element, and stands once more at the end.
+pub fn record_of(tree: &[u8], last: u8) -> Vec<u8> {
+    let closed = tree[..tree.len() - 1].iter();
+    closed
+        .map(|&symbol| if symbol == last { CLOSE } else { symbol })
+        .collect()
 }
 
 /// A full tree of f and a for `wordy`, below so many g.
