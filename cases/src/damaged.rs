@@ -2,9 +2,11 @@
 //! to an end soon, answers one of the numbers with every entry of its answer, and writes to nothing but
 //! the room, the plan and the answer.
 
+mod records;
+
 use std::time::Duration;
 
-use fadurinko::limit::{LONGEST, PLAN, SYMBOLS, TREE};
+use fadurinko::limit::{LONGEST, SYMBOLS, TREE};
 use fadurinko_second::rng::Rng;
 
 use crate::answer::{is_whole, Told};
@@ -13,43 +15,24 @@ use crate::made_up::Kind;
 use crate::opened::Arrays;
 use crate::report::{Call, Report};
 use crate::room::Rooms;
+use crate::scratch::Scratch;
 use crate::watch::Watch;
+use records::Generated;
 
 /// At most so many damaged tables are tried, whatever the count is.
 pub const MOST: usize = 4_000;
 
+/// The last number that a word or a judgement is refused with.
 const LAST_NUMBER: u8 = 19;
-const GUARD: usize = 64;
-const GUARDED: u32 = 0x5ca1_ab1e;
-
-/// A plan between guards.
-#[repr(C)]
-struct Guarded {
-    before: [u32; GUARD],
-    plan: [u32; PLAN],
-    behind: [u32; GUARD],
-}
-
-impl Guarded {
-    fn new() -> Box<Guarded> {
-        Box::new(Guarded {
-            before: [GUARDED; GUARD],
-            plan: [0; PLAN],
-            behind: [GUARDED; GUARD],
-        })
-    }
-
-    fn is_kept(&self) -> bool {
-        self.before == [GUARDED; GUARD] && self.behind == [GUARDED; GUARD]
-    }
-}
 
 pub struct Damaged {
     seed: u64,
     arrays: Arrays,
     before: Arrays,
-    plan: Box<Guarded>,
+    scratch: Scratch,
     watch: Watch,
+    record_watch: Watch,
+    generated: Generated,
 }
 
 impl Damaged {
@@ -58,14 +41,16 @@ impl Damaged {
             seed,
             arrays: Arrays::blank(),
             before: Arrays::blank(),
-            plan: Guarded::new(),
+            scratch: Scratch::new(&mut Rng::new(seed)),
             watch: Watch::new(),
+            record_watch: Watch::new(),
+            generated: Generated::default(),
         }
     }
 
-    /// The longest time of a call.
-    pub fn slowest(&self) -> Duration {
-        self.watch.slowest()
+    /// The longest time of a call on trees or tables, and of one on records.
+    pub fn slowest(&self) -> [Duration; 2] {
+        [self.watch.slowest(), self.record_watch.slowest()]
     }
 
     pub fn next(&mut self, index: usize, rooms: &mut Rooms, report: &mut Report) {
@@ -74,30 +59,34 @@ impl Damaged {
         let mut trees = self.arrays.make(kind, self.seed, index, &mut rng);
         self.before.copy_from(&self.arrays);
         if rng.percent(30) {
-            self.plan.plan.fill_with(|| rng.below(1 << 32) as u32);
+            self.scratch.make_noise(&mut rng);
         }
         let name = format!("seed {}, damaged {index} ({kind:?})", self.seed);
         report.input(Call::JudgeDamaged);
         self.judge(&name, report);
-        for by_frames in [false, true] {
-            let most = if rng.percent(4) {
-                TREE
-            } else {
-                rng.between(1, 120)
-            };
-            trees.push(led(&self.arrays, &mut rng, most, by_frames));
-        }
+        trees.extend([false, true].map(|by_frames| self.led(&mut rng, by_frames)));
         report.input(Call::FindDamaged);
         for (line, tree) in trees.iter().enumerate() {
-            let length = match rng.below(20) {
-                0 => LONGEST,
-                1 => 0,
-                2..=9 => rng.below(2_000),
-                _ => rng.below(60_000),
-            };
+            let length = room_length(&mut rng);
             let name = format!("{name}, tree {line}, room {length}");
             self.find(tree, length, name, rooms, report);
         }
+    }
+
+    /// A tree that the rules lead through.
+    fn led(&self, rng: &mut Rng, by_frames: bool) -> Vec<u8> {
+        let most = if rng.percent(4) {
+            TREE
+        } else {
+            rng.between(1, 120)
+        };
+        let way = Way {
+            from: self.arrays.numbers[2] as usize,
+            most,
+            end: TREE,
+            by_frames,
+        };
+        led(&self.arrays, way, rng)
     }
 
     fn judge(&mut self, name: &str, report: &mut Report) {
@@ -105,9 +94,12 @@ impl Damaged {
         let told = self
             .watch
             .timed(format!("judge_opened, {name}"), || arrays.judge());
-        report.alone(Call::JudgeDamaged, told.0, self.wrong(told), || {
-            name.to_string()
-        });
+        report.alone(
+            Call::JudgeDamaged,
+            told.0,
+            self.wrong(told, LAST_NUMBER),
+            || name.to_string(),
+        );
     }
 
     fn find(
@@ -118,28 +110,35 @@ impl Damaged {
         rooms: &mut Rooms,
         report: &mut Report,
     ) {
-        let (arrays, plan) = (&self.arrays, &mut self.plan.plan);
+        let (arrays, scratch) = (&self.arrays, &mut self.scratch);
         let room = rooms.lend(length);
         let told = self
             .watch
-            .timed(format!("find, {name}"), || arrays.find(tree, plan, room));
-        let wrong = self.wrong(told).and(rooms.holds_outside());
+            .timed(format!("find, {name}"), || arrays.find(tree, scratch, room));
+        let wrong = self.wrong(told, LAST_NUMBER).and(rooms.holds_outside());
         report.alone(Call::FindDamaged, told.0, wrong, || name);
     }
 
     /// What is wrong with an answer and with what is lent besides the room.
-    fn wrong(&self, told: Told) -> Result<(), &'static str> {
-        if told.0 > LAST_NUMBER {
+    fn wrong(&self, told: Told, last_number: u8) -> Result<(), &'static str> {
+        if told.0 > last_number {
             Err("there is no such number")
         } else if !is_whole(told) {
             Err("an entry of the answer is not 0")
         } else if self.arrays != self.before {
             Err("a call changed the opened table")
-        } else if !self.plan.is_kept() {
-            Err("numbers around the plan changed")
         } else {
-            Ok(())
+            self.scratch.holds_outside()
         }
+    }
+}
+
+fn room_length(rng: &mut Rng) -> usize {
+    match rng.below(20) {
+        0 => LONGEST,
+        1 => 0,
+        2..=9 => rng.below(2_000),
+        _ => rng.below(60_000),
     }
 }
 
@@ -174,18 +173,27 @@ impl Arrays {
     }
 }
 
-/// A tree that the rules lead through, of about so many symbols at most where there are leaves enough.
-fn led(arrays: &Arrays, rng: &mut Rng, most: usize, by_frames: bool) -> Vec<u8> {
+/// How the rules lead: from a state on, to about so many symbols at most where there are leaves enough, and
+/// where not to this end; by the states in the frames or in the numbers.
+struct Way {
+    from: usize,
+    most: usize,
+    end: usize,
+    by_frames: bool,
+}
+
+/// A tree that the rules lead through.
+fn led(arrays: &Arrays, way: Way, rng: &mut Rng) -> Vec<u8> {
     let mut tree = Vec::new();
-    let mut waiting = vec![(arrays.numbers[2] as usize, 1)];
+    let mut waiting = vec![(way.from, 1)];
     while let Some((state, level)) = waiting.pop() {
-        let is_full = level >= 62 || waiting.len() > 180 || tree.len() + waiting.len() >= most;
+        let is_full = level >= 62 || waiting.len() > 180 || tree.len() + waiting.len() >= way.most;
         let symbol = symbol(arrays, state, is_full || rng.percent(15), rng);
         tree.push(symbol as u8);
-        if tree.len() > TREE {
+        if tree.len() > way.end {
             break;
         }
-        let states = arrays.children(arrays.kept(state, symbol), by_frames);
+        let states = arrays.children(arrays.kept(state, symbol), way.by_frames);
         waiting.extend(states.into_iter().map(|state| (state, level + 1)));
     }
     tree

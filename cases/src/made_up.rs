@@ -351,7 +351,7 @@ impl Arrays {
         }
     }
 
-    fn damage(&mut self, kind: Kind, rng: &mut Rng) {
+    pub fn damage(&mut self, kind: Kind, rng: &mut Rng) {
         if matches!(kind, Kind::Grid | Kind::All) {
             self.damage_numbers(GRID_FROM, GRID, changed_kept, rng);
         }

@@ -1,16 +1,23 @@
 //! `cases SEED COUNT` compares the exported calls with the second program on COUNT table texts, COUNT
-//! trees and COUNT pairs of texts: numbers, every entry of an answer, every byte of the room and the
-//! bytes on both sides of it, every byte and number of an opened table. Up to 4,000 tables are damaged
-//! or made up besides: the calls on them must come to an end in time and write only where they may.
-//! Exit status 1 if anything differs.
+//! trees, COUNT pairs of texts and about COUNT records and trees to be written back: numbers, every entry
+//! of an answer, every byte of the room and the bytes on both sides of it, every byte and number of an
+//! opened table. Twice up to 4,000 tables, the second time for records, are damaged or made up besides:
+//! the calls on them must come to an end in time and write only where they may. Records at the edges of
+//! what is answered are tried in every run. Exit status 1 if anything differs.
 
 mod answer;
+mod asked;
 mod damaged;
 mod layout;
+mod made_records;
 mod made_up;
+mod named;
 mod opened;
+mod record_calls;
+mod records;
 mod report;
 mod room;
+mod scratch;
 mod tables;
 mod trees;
 mod watch;
@@ -19,6 +26,7 @@ use std::process::ExitCode;
 use std::time::{Duration, Instant};
 
 use damaged::Damaged;
+use records::Records;
 use report::Report;
 use room::Rooms;
 use tables::Tables;
@@ -37,7 +45,7 @@ fn main() -> ExitCode {
         return ExitCode::from(2);
     };
     println!(
-        "seed {seed}: {count} texts, {count} trees, {count} pairs of texts, {} damaged tables",
+        "seed {seed}: {count} texts, {count} trees, {count} pairs of texts, {count} records, {} damaged tables",
         count.min(damaged::MOST)
     );
     let report = run(seed, count);
@@ -54,19 +62,23 @@ fn run(seed: u64, count: usize) -> Report {
     let mut rooms = Rooms::new(seed);
     let mut tables = Tables::new(seed);
     let mut trees = Trees::new(seed);
+    let mut records = Records::new(seed);
     let mut damaged = Damaged::new(seed);
     for index in 0..count.min(damaged::MOST) {
         damaged.next(index, &mut rooms, &mut report);
+        damaged.next_for_records(index, &mut rooms, &mut report);
     }
+    let [slowest, on_records] = damaged.slowest();
     println!(
-        "damaged tables: the slowest call took {:?}",
-        damaged.slowest()
+        "damaged tables: the slowest call took {slowest:?}, the slowest on records {on_records:?}"
     );
+    named::run(seed, &mut rooms, &mut report);
     let mut progress = Progress::new(count);
     for index in 0..count {
         tables.text(index, &mut rooms, &mut report);
         tables.pair(index, &mut report);
         trees.next(&mut rooms, &mut report);
+        records.next(&mut rooms, &mut report);
         progress.after(index + 1);
     }
     report

@@ -1,12 +1,14 @@
 //! The arrays of an opened table, full of other things before it is opened.
 
 use fadurinko::lent;
-use fadurinko::limit::{FRAMES, NUMBERS, PLAN};
+use fadurinko::limit::{FRAMES, NUMBERS};
 use fadurinko_second::refusal::Refusal;
 use fadurinko_second::rng::Rng;
 use fadurinko_second::table::Table;
 
 use crate::answer::{told, Told};
+use crate::asked::Asked;
+use crate::scratch::Scratch;
 
 #[derive(Clone, PartialEq)]
 pub struct Arrays {
@@ -28,8 +30,9 @@ impl Arrays {
         told(|answer| lent::judge_opened(&self.frames, &self.numbers, answer))
     }
 
-    pub fn find(&self, tree: &[u8], plan: &mut [u32; PLAN], room: &mut [u8]) -> Told {
-        told(|answer| lent::find(&self.frames, &self.numbers, tree, plan, room, answer))
+    pub fn find(&self, tree: &[u8], scratch: &mut Scratch, room: &mut [u8]) -> Told {
+        let (frames, numbers, plan) = (&self.frames, &self.numbers, scratch.plan());
+        told(|answer| lent::find(frames, numbers, tree, plan, room, answer))
     }
 }
 
@@ -37,7 +40,8 @@ pub struct Opened {
     arrays: Arrays,
     before: Arrays,
     dirt: Arrays,
-    plan: Box<[u32; PLAN]>,
+    scratch: Scratch,
+    rng: Rng,
 }
 
 fn boxed<T: Clone + Default, const N: usize>(mut next: impl FnMut() -> T) -> Box<[T; N]> {
@@ -58,8 +62,9 @@ impl Opened {
         Opened {
             arrays: dirt.clone(),
             before: dirt.clone(),
-            plan: boxed(|| rng.below(1 << 32) as u32),
+            scratch: Scratch::new(&mut rng),
             dirt,
+            rng,
         }
     }
 
@@ -90,15 +95,23 @@ impl Opened {
     }
 
     pub fn find(&mut self, tree: &[u8], room: &mut [u8]) -> Told {
-        self.arrays.find(tree, &mut self.plan, room)
+        self.arrays.find(tree, &mut self.scratch, room)
     }
 
-    /// Whether finding words left the opened table alone.
+    /// Asks about a record or a tree, with noise in the scratch.
+    pub fn ask(&mut self, asked: Asked, input: &[u8], room: &mut [u8]) -> Told {
+        if matches!(asked, Asked::Word) {
+            self.scratch.make_noise(&mut self.rng);
+        }
+        asked.by_arrays(&self.arrays, input, &mut self.scratch, room)
+    }
+
+    /// Whether the calls left the opened table alone, and what is around the scratch.
     pub fn is_as_opened(&self) -> Result<(), &'static str> {
         if self.arrays == self.before {
-            Ok(())
+            self.scratch.holds_outside()
         } else {
-            Err("finding a word changed the opened table")
+            Err("a call changed the opened table")
         }
     }
 }

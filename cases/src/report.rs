@@ -12,12 +12,21 @@ pub enum Call {
     Form,
     Compare,
     Open,
+    RecordWord,
+    RecordTree,
+    TreeRecord,
+    RecordWordOpened,
+    RecordTreeOpened,
+    TreeRecordOpened,
     /// The calls on arrays that no `open` wrote.
     FindDamaged,
     JudgeDamaged,
+    RecordWordDamaged,
+    RecordTreeDamaged,
+    TreeRecordDamaged,
 }
 
-const NAMES: [&str; 9] = [
+const NAMES: [&str; 18] = [
     "word",
     "find",
     "judge",
@@ -25,8 +34,17 @@ const NAMES: [&str; 9] = [
     "form",
     "compare",
     "open",
+    "record_word",
+    "record_tree",
+    "tree_record",
+    "record_word_opened",
+    "record_tree_opened",
+    "tree_record_opened",
     "find by damaged arrays",
     "judge_opened of damaged arrays",
+    "record_word_opened by damaged arrays",
+    "record_tree_opened by damaged arrays",
+    "tree_record_opened by damaged arrays",
 ];
 
 const SHOWN: usize = 10;
@@ -123,6 +141,21 @@ impl Report {
         }
     }
 
+    /// What the second program answered, where the answer can be said without it.
+    pub fn said<A: PartialEq + Debug>(
+        &mut self,
+        theirs: A,
+        said: A,
+        case: impl FnOnce() -> String,
+    ) {
+        if theirs != said {
+            self.differs(|| {
+                let case = case();
+                format!("the second program, {case}: answered {theirs:?}, due is {said:?}")
+            });
+        }
+    }
+
     fn answered(&mut self, call: Call, number: u8) {
         self.counts[call as usize].answers[usize::from(number)] += 1;
     }
@@ -176,9 +209,12 @@ mod tests {
         assert_eq!(report.differences(), 3);
         report.alone(Call::FindDamaged, 20, Err("bytes"), name);
         assert_eq!(report.differences(), 4);
+        report.said(Some(9), Some(9), name);
+        assert_eq!(report.differences(), 4);
+        report.said(Some(9), None, name);
         assert!(report
             .shown()
             .contains("word: 0 cases, 3 calls (yes 2, no 12: 1)"));
-        assert!(report.shown().ends_with("6 calls, 4 differences\n"));
+        assert!(report.shown().ends_with("6 calls, 5 differences\n"));
     }
 }

@@ -3,6 +3,8 @@
 use fadurinko::limit::LONGEST;
 use fadurinko_second::rng::Rng;
 
+use crate::answer::Output;
+
 /// At least so many guard bytes stand on each side.
 const GUARD: usize = 128;
 /// A room starts at any of so many places, so that its alignment varies.
@@ -42,8 +44,26 @@ impl Rooms {
         }
     }
 
+    /// The lengths to try for what is due.
+    pub fn lengths_for(&mut self, output: Output<'_>) -> Vec<usize> {
+        match output {
+            Ok((bytes, _)) => self.lengths(bytes.len()),
+            Err(_) => self.lengths_for_nothing().to_vec(),
+        }
+    }
+
+    /// The lengths to try for what is due where so many bytes are given: where nothing is written, also one
+    /// in which all of them have place.
+    pub fn lengths_for_record(&mut self, output: Output<'_>, given: usize) -> Vec<usize> {
+        let mut lengths = self.lengths_for(output);
+        if output.is_err() {
+            lengths.push(self.rng.between(given, given + 70).min(LONGEST));
+        }
+        lengths
+    }
+
     /// The lengths to try for an output: none, one, around what is needed, and more.
-    pub fn lengths(&mut self, need: usize) -> Vec<usize> {
+    fn lengths(&mut self, need: usize) -> Vec<usize> {
         let around = need.saturating_sub(2)..=need + 2;
         let more = [
             self.rng.between(need, need + 70),
@@ -57,7 +77,7 @@ impl Rooms {
     }
 
     /// The lengths to try where nothing is written.
-    pub fn lengths_for_nothing(&mut self) -> [usize; 3] {
+    fn lengths_for_nothing(&mut self) -> [usize; 3] {
         [0, 1, self.rng.between(2, 300)]
     }
 

@@ -5,10 +5,9 @@ use fadurinko_second::compare::{compare, Comparison};
 use fadurinko_second::form::form_text;
 use fadurinko_second::gen::{pairs, tables};
 use fadurinko_second::judge::judge;
-use fadurinko_second::refusal::{Refusal, ROOM};
 use fadurinko_second::table;
 
-use crate::answer::{compared, due, put, refused, refused_about, told, Told};
+use crate::answer::{compared, due, in_a_room, refused_about, told, Told};
 use crate::opened::Opened;
 use crate::report::{Call, Report};
 use crate::room::Rooms;
@@ -67,18 +66,14 @@ impl Tables {
 fn form(text: &[u8], rooms: &mut Rooms, report: &mut Report, name: impl Fn() -> String) {
     report.input(Call::Form);
     let formed = form_text(text);
-    let lengths = match &formed {
-        Ok(form) => rooms.lengths(form.len()),
-        Err(_) => rooms.lengths_for_nothing().to_vec(),
+    let output = match &formed {
+        Ok(form) => Ok((&form[..], 0)),
+        Err(refusal) => Err(*refusal),
     };
-    for length in lengths {
-        let (theirs, output) = match &formed {
-            Ok(form) if form.len() <= length => (put(form.len(), 0), &form[..]),
-            Ok(form) => (refused(Refusal::new(ROOM, form.len())), &b""[..]),
-            Err(refusal) => (refused(*refusal), &b""[..]),
-        };
+    for length in rooms.lengths_for(output) {
+        let (theirs, written) = in_a_room(output, length);
         let mine = told(|answer| lent::form(text, rooms.lend(length), answer));
-        report.call(Call::Form, mine, theirs, rooms.holds(output), || {
+        report.call(Call::Form, mine, theirs, rooms.holds(written), || {
             format!("{}, room {length}", name())
         });
     }

@@ -3,11 +3,11 @@
 use fadurinko::lent;
 use fadurinko_second::gen::trees;
 use fadurinko_second::hex;
-use fadurinko_second::refusal::{Refusal, ROOM};
+use fadurinko_second::refusal::Refusal;
 use fadurinko_second::table::{self, Table};
-use fadurinko_second::walk::{Found, Walker};
+use fadurinko_second::walk::Walker;
 
-use crate::answer::{due, put, refused, told, Told};
+use crate::answer::{due, in_a_room, told, Output};
 use crate::opened::Opened;
 use crate::report::{Call, Report};
 use crate::room::Rooms;
@@ -71,21 +71,20 @@ impl Trees {
         if self.case.line == 0 {
             self.open(report);
         }
+        let mut word = std::mem::take(&mut self.word);
         let found = match &self.case.table {
-            Ok(table) => Walker::new(table).word(&self.case.trees[self.case.line], &mut self.word),
+            Ok(table) => Walker::new(table).word(&self.case.trees[self.case.line], &mut word),
             Err(refusal) => Err(*refusal),
         };
-        let lengths = match found {
-            Ok(found) => rooms.lengths(found.length),
-            Err(_) => rooms.lengths_for_nothing().to_vec(),
-        };
+        let output = found.map(|found| (&word[..], found.terms));
         report.input(Call::Word);
         if self.case.table.is_ok() {
             report.input(Call::Find);
         }
-        for length in lengths {
-            self.in_a_room(length, found, rooms, report);
+        for length in rooms.lengths_for(output) {
+            self.in_a_room(length, output, rooms, report);
         }
+        self.word = word;
         self.case.line += 1;
     }
 
@@ -99,25 +98,21 @@ impl Trees {
     fn in_a_room(
         &mut self,
         length: usize,
-        found: Result<Found, Refusal>,
+        output: Output<'_>,
         rooms: &mut Rooms,
         report: &mut Report,
     ) {
         let case = &self.case;
         let tree = &case.trees[case.line];
-        let (theirs, output): (Told, &[u8]) = match found {
-            Ok(found) if found.length <= length => (put(found.length, found.terms), &self.word),
-            Ok(found) => (refused(Refusal::new(ROOM, found.length)), b""),
-            Err(refusal) => (refused(refusal), b""),
-        };
+        let (theirs, written) = in_a_room(output, length);
         let name = || format!("{}, room {length}", case.name());
 
         let mine = told(|answer| lent::word(&case.text, tree, rooms.lend(length), answer));
-        report.call(Call::Word, mine, theirs, rooms.holds(output), name);
+        report.call(Call::Word, mine, theirs, rooms.holds(written), name);
 
         if case.table.is_ok() {
             let mine = self.opened.find(tree, rooms.lend(length));
-            let bytes = rooms.holds(output).and(self.opened.is_as_opened());
+            let bytes = rooms.holds(written).and(self.opened.is_as_opened());
             report.call(Call::Find, mine, theirs, bytes, name);
         }
     }

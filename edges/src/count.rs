@@ -1,98 +1,111 @@
-//! What `word` says of its work where standard error is a terminal: how far it is, and at the end
-//! how many lines it answered, and how. Where it is none nothing is said.
+//! What `word` and `record` say of their work where standard error is a terminal: how far they are, and at
+//! the end how many lines they answered, and how. Where it is none nothing is said.
 
 use std::collections::BTreeMap;
 use std::path::Path;
 use std::time::Duration;
 
+use crate::asked::Asked;
 use crate::check::{answered, same_bytes, shown};
 use crate::feed::Pieces;
-use crate::lines::ClipLines;
 use crate::report::Report;
-use crate::run::{Call, Seen, Source};
-use crate::second;
+use crate::run::{Seen, Source};
 use crate::setting::Setting;
 use crate::terminal::{self, quoted};
 
 /// Between two lines of input that comes slowly.
 const BETWEEN: Duration = Duration::from_millis(50);
 const SLOW_LINES: usize = 55;
+/// Enough that a second passes.
+const FEWER_LINES: usize = 30;
 const MANY_LINES: usize = 20_000;
 /// The time between two words about progress.
 const SECOND: Duration = Duration::from_secs(1);
 
 pub fn run(setting: &Setting, report: &mut Report) {
-    let lines = ClipLines::new(setting.rng("count")).take(SLOW_LINES);
-    report.case(
-        "count: not at a terminal",
-        without_terminal(setting, &lines),
-    );
+    let outcome = without_terminal(setting, Asked::Word, SLOW_LINES);
+    report.case("count: word, not at a terminal", outcome);
     if !terminal::is_there() {
         return report.not_tried("the count at a terminal, because there is no `script`");
     }
-    let clips = setting.example("clips.table");
+    for asked in Asked::all(setting) {
+        counts(setting, asked, report);
+        let outcome = match asked {
+            Asked::Word => progressed(setting, asked, SLOW_LINES),
+            Asked::RecordBack => progressed(setting, asked, FEWER_LINES),
+            _ => continue,
+        };
+        report.case(format!("count: {}, progress", asked.name()), outcome);
+    }
+}
+
+fn counts(setting: &Setting, asked: Asked, report: &mut Report) {
+    let example = asked.example(setting);
     let refused = setting.file("refused.table", b"0100\n04\n");
-    let many = ClipLines::new(setting.rng("many"))
-        .take(MANY_LINES)
-        .concat();
+    let many = asked.lines(setting.rng("many")).take(MANY_LINES).concat();
     let closed = b"000102030402\n00020302\n0002\n02\n";
     for (name, table, input) in [
-        ("four lines", &clips, &closed[..]),
-        ("a last line that is not closed", &clips, &closed[..29]),
+        ("four lines", &example, &closed[..]),
+        ("a last line that is not closed", &example, &closed[..29]),
         (
             "only refusals and not hex",
-            &clips,
+            &example,
             b"xy\n0002\n02\n02\n\nz\n",
         ),
         ("a refused table", &refused, b"00\n00\n0g\n\n"),
-        ("no line", &clips, b""),
-        ("many lines", &clips, &many),
+        ("no line", &example, b""),
+        ("many lines", &example, &many),
     ] {
-        report.case(format!("count: {name}"), counted(setting, table, input));
+        let outcome = counted(setting, asked, table, input);
+        report.case(format!("count: {}, {name}", asked.name()), outcome);
     }
-    report.case("count: progress", progressed(setting, &lines));
 }
 
 /// Slowly enough that progress would be told; standard error is a pipe.
-fn without_terminal(setting: &Setting, lines: &[Vec<u8>]) -> Result<(), String> {
-    let clips = setting.example("clips.table");
-    let expected = second::word(setting, &clips, &lines.concat());
-    let pieces = Source::Pieces(Pieces::every(lines.to_vec(), BETWEEN));
-    let call = Call::new(setting.program("word")).arg(clips);
+fn without_terminal(setting: &Setting, asked: Asked, count: usize) -> Result<(), String> {
+    let table = asked.example(setting);
+    let lines = asked.lines(setting.rng("count")).take(count);
+    let expected = asked.expected(setting, &table, &lines.concat());
+    let pieces = Source::Pieces(Pieces::every(lines, BETWEEN));
+    let call = asked.call(setting, &table);
     answered(&expected, &call.source(pieces).run())
 }
 
 /// At a terminal, with input from a file.
-fn counted(setting: &Setting, table: &Path, input: &[u8]) -> Result<(), String> {
+fn counted(setting: &Setting, asked: Asked, table: &Path, input: &[u8]) -> Result<(), String> {
     let file = setting.file("lines", input);
-    let answers = second::word(setting, table, input);
-    let told = at_terminal(setting, table, &file, &answers)?;
-    told.ends_with(&count_of(&answers))
+    let answers = asked.expected(setting, table, input);
+    let told = at_terminal(setting, asked, table, &file, &answers)?;
+    told.ends_with(&count_of(asked, &answers))
 }
 
 /// At a terminal, with input that comes through a pipe for some seconds.
-fn progressed(setting: &Setting, lines: &[Vec<u8>]) -> Result<(), String> {
-    let clips = setting.example("clips.table");
-    let answers = second::word(setting, &clips, &lines.concat());
+fn progressed(setting: &Setting, asked: Asked, count: usize) -> Result<(), String> {
+    let table = asked.example(setting);
+    let lines = asked.lines(setting.rng("count")).take(count);
+    let answers = asked.expected(setting, &table, &lines.concat());
     let pipe = setting.named_pipe();
-    Pieces::every(lines.to_vec(), BETWEEN).pour_into_named(&pipe);
-    let told = at_terminal(setting, &clips, &pipe, &answers)?;
-    let count = count_of(&answers);
-    told.ends_with(&count)?;
-    told.had_progress(lines.len(), &count)
+    Pieces::every(lines, BETWEEN).pour_into_named(&pipe);
+    let told = at_terminal(setting, asked, &table, &pipe, &answers)?;
+    let last = count_of(asked, &answers);
+    told.ends_with(&last)?;
+    told.had_progress(count, &last)
 }
 
 /// What comes to the terminal at standard error; the answers have to be those that are expected.
 fn at_terminal(
     setting: &Setting,
+    asked: Asked,
     table: &Path,
     input: &Path,
     answers: &[u8],
 ) -> Result<Told, String> {
     let out = setting.file("out", b"");
-    let program = quoted(&setting.program("word"));
-    let [table, input, output] = [table, input, &out].map(quoted);
-    let seen = terminal::call(&format!("{program} {table} < {input} > {output}")).run();
+    let program = quoted(&asked.program(setting));
+    let arguments = asked.arguments(table).into_iter();
+    let arguments: Vec<String> = arguments.map(|word| quoted(Path::new(word))).collect();
+    let (arguments, input, output) = (arguments.join(" "), quoted(input), quoted(&out));
+    let seen = terminal::call(&format!("{program} {arguments} < {input} > {output}")).run();
     seen.ended_well()?;
     let written = std::fs::read(&out).expect("it was just made");
     same_bytes(answers, &written)?;
@@ -100,13 +113,13 @@ fn at_terminal(
 }
 
 /// The line that is to be told at the end.
-fn count_of(answers: &[u8]) -> String {
+fn count_of(asked: Asked, answers: &[u8]) -> String {
     let text = String::from_utf8_lossy(answers);
-    let (mut words, mut not_hex) = (0, 0);
+    let (mut given, mut not_hex) = (0, 0);
     let mut refused: BTreeMap<usize, usize> = BTreeMap::new();
     for line in text.lines() {
         match line.split(' ').collect::<Vec<_>>().as_slice() {
-            ["word", ..] => words += 1,
+            ["word" | "tree" | "record", ..] => given += 1,
             ["not", "hex"] => not_hex += 1,
             ["no", number, _] => {
                 let number = number.parse().expect("a no has a number");
@@ -115,7 +128,11 @@ fn count_of(answers: &[u8]) -> String {
             _ => panic!("the second program answers {line}"),
         }
     }
-    let mut count = format!("{} lines: {words} words", text.lines().count());
+    let mut count = format!(
+        "{} lines: {given} {}",
+        text.lines().count(),
+        asked.counted()
+    );
     for (number, times) in refused {
         count += &format!(", no {number}: {times}");
     }
@@ -213,8 +230,12 @@ mod tests {
     fn the_count_is_that_of_the_answers() {
         let answers = b"word 0 1\nword 1 1 61\nno 9 0\nno 8 2\nno 11 0\nno 8 3\nnot hex\n";
         let count = "7 lines: 2 words, no 8: 2, no 9: 1, no 11: 1, not hex: 1";
-        assert_eq!(count_of(answers), count);
-        assert_eq!(count_of(b""), "0 lines: 0 words");
+        assert_eq!(count_of(Asked::Word, answers), count);
+        assert_eq!(count_of(Asked::RecordWord, b""), "0 lines: 0 words");
+        let count = count_of(Asked::RecordTree, b"tree 000101\nno 22 0\n");
+        assert_eq!(count, "2 lines: 1 trees, no 22: 1");
+        let count = count_of(Asked::RecordBack, b"record 00ff\nno 24 0\n");
+        assert_eq!(count, "2 lines: 1 records, no 24: 1");
     }
 
     #[test]

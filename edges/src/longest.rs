@@ -1,4 +1,5 @@
-//! The longest word of all: every word of the table has 32 letters, and the tree has 32,768 symbols.
+//! The longest word of all: every word of the table has 32 letters, and the tree has 32,768 symbols. And
+//! records, of which the largest that is answered has 16,383 elements.
 
 use std::fmt::Write;
 
@@ -35,19 +36,33 @@ fn rule(text: &mut String, letter: &mut u8, symbol: u8, children: usize) {
     text.push('\n');
 }
 
-/// The table: a pair, a leaf and a single child, one state.
-pub fn table() -> Vec<u8> {
-    let mut text = "0102\n0100\n0101\n0201".to_string();
+/// A table of one state over symbols with these arities.
+fn table_over(arities: &[usize]) -> Vec<u8> {
+    let mut text = String::new();
+    for arity in arities {
+        writeln!(text, "01{arity:02x}").expect("a string takes everything");
+    }
+    text.push_str("0201");
     let mut letter = 3;
     word(&mut text, &mut letter);
     text.push_str("00");
     word(&mut text, &mut letter);
     text.push('\n');
-    rule(&mut text, &mut letter, PAIR, 2);
-    rule(&mut text, &mut letter, LEAF, 0);
-    rule(&mut text, &mut letter, SINGLE, 1);
+    for (symbol, arity) in arities.iter().enumerate() {
+        rule(&mut text, &mut letter, symbol as u8, *arity);
+    }
     text.push_str("04\n");
     text.into_bytes()
+}
+
+/// The table: a pair, a leaf and a single child.
+pub fn table() -> Vec<u8> {
+    table_over(&[2, 0, 1])
+}
+
+/// The table for records: one label, which is the pair, and the leaf.
+pub fn record_table() -> Vec<u8> {
+    table_over(&[2, 0])
 }
 
 fn full_tree(levels: usize, tree: &mut Vec<u8>) {
@@ -66,6 +81,35 @@ pub fn tree() -> Vec<u8> {
     tree
 }
 
+/// So many elements a record has at most, if it is to have an answer.
+pub const MOST_ELEMENTS: usize = (MOST_SYMBOLS - 1) / 2;
+
+const CLOSE: u8 = 0xff;
+
+fn add_elements(elements: usize, stream: &mut Vec<u8>) {
+    if elements > 0 {
+        let inside = (elements - 1) / 2;
+        stream.push(PAIR);
+        add_elements(inside, stream);
+        stream.push(CLOSE);
+        add_elements(elements - 1 - inside, stream);
+    }
+}
+
+/// The stream of a record of so many elements, with few levels.
+pub fn record(elements: usize) -> Vec<u8> {
+    let mut stream = vec![PAIR];
+    add_elements(elements - 1, &mut stream);
+    stream.push(CLOSE);
+    stream
+}
+
+/// The image of a record as a tree.
+pub fn image(stream: &[u8]) -> Vec<u8> {
+    let symbol = |byte: &u8| if *byte == CLOSE { LEAF } else { *byte };
+    stream.iter().map(symbol).chain([LEAF]).collect()
+}
+
 pub fn hexadecimal(bytes: &[u8]) -> String {
     bytes.iter().map(|byte| format!("{byte:02x}")).collect()
 }
@@ -73,6 +117,8 @@ pub fn hexadecimal(bytes: &[u8]) -> String {
 #[cfg(test)]
 mod tests {
     use super::*;
+    use fadurinko_second::record::Desk;
+    use fadurinko_second::refusal::{Refusal, TREE_SIZE};
     use fadurinko_second::table::read;
     use fadurinko_second::walk::Walker;
 
@@ -85,5 +131,16 @@ mod tests {
         let mut word = Vec::new();
         let found = Walker::new(&table).word(&tree(), &mut word);
         assert_eq!(found.expect("the tree has a word").length, letters);
+    }
+
+    #[test]
+    fn a_record_has_as_many_elements_as_there_can_be() {
+        let table = read(&record_table()).expect("the table can be read");
+        let desk = Desk::new(&table).expect("the table is one for records");
+        let largest = record(MOST_ELEMENTS);
+        assert_eq!(desk.tree(&largest), Ok(image(&largest)));
+        assert_eq!(desk.record(&image(&largest)), Ok(largest));
+        let larger = desk.tree(&record(MOST_ELEMENTS + 1));
+        assert_eq!(larger, Err(Refusal::new(TREE_SIZE, 0)));
     }
 }

@@ -1,8 +1,8 @@
-//! `edges BIN_FOLDER SECOND_PROGRAM EXAMPLES_FOLDER [SEED]` runs the four programs of a folder as a
-//! user, a pipe or a terminal meets them, and compares their answers with those of the second
-//! program. A line for each case that fails, and a count last. Exit status 1 if a case fails, 2 if
-//! none could be tried.
+//! `edges BIN_FOLDER SECOND_PROGRAM EXAMPLES_FOLDER [SEED]` runs the programs of a folder as a user, a
+//! pipe or a terminal meets them, and compares their answers with those of the second program. A line
+//! for each case that fails, and a count last. Exit status 1 if a case fails, 2 if none could be tried.
 
+mod asked;
 mod check;
 mod count;
 mod feed;

@@ -1,5 +1,5 @@
-//! `word` answers a line as soon as it has come: both of its ends are pipes that stay open, and each
-//! answer is waited for before more is sent.
+//! `word` and `record` answer a line as soon as it has come: both of their ends are pipes that stay open,
+//! and each answer is waited for before more is sent.
 
 use std::io::{BufRead, BufReader, Write};
 use std::path::Path;
@@ -8,12 +8,12 @@ use std::sync::mpsc::{self, Receiver, Sender};
 use std::thread;
 use std::time::{Duration, Instant};
 
+use crate::asked::Asked;
 use crate::check::same_bytes;
-use crate::lines::ClipLines;
+use crate::lines::Lines;
 use crate::longest;
 use crate::report::Report;
 use crate::run::{Kept, AT_ONCE};
-use crate::second;
 use crate::setting::Setting;
 
 /// Between two pieces of a line.
@@ -24,54 +24,75 @@ const TURNS: usize = 20;
 type Turn = Vec<Vec<u8>>;
 
 pub fn run(setting: &Setting, report: &mut Report) {
-    let clips = setting.example("clips.table");
-    let mut lines = ClipLines::new(setting.rng("prompt"));
+    for asked in Asked::all(setting) {
+        talks(setting, asked, report);
+    }
+    let table = setting.file("longest.table", &longest::table());
+    let outcome = long_talk(setting, Asked::Word, &table, &longest::tree());
+    report.case("prompt: the longest word", outcome);
+    if setting.has_record() {
+        let table = setting.file("longest.table", &longest::record_table());
+        let record = longest::record(longest::MOST_ELEMENTS);
+        let outcome = long_talk(setting, Asked::RecordWord, &table, &record);
+        report.case("prompt: the largest record", outcome);
+    }
+}
+
+fn talks(setting: &Setting, asked: Asked, report: &mut Report) {
+    let name = asked.name();
+    let table = asked.example(setting);
+    let mut lines = asked.lines(setting.rng("prompt"));
     let turns: Vec<Turn> = (0..TURNS).map(|_| lines.take(1)).collect();
-    report.case("prompt: line by line", talk(setting, &clips, &turns));
-    for (name, turn) in [
+    let outcome = talk(setting, asked, &table, &turns);
+    report.case(format!("prompt: {name}, line by line"), outcome);
+    for (pieces, turn) in [
         ("a line in two pieces", two_pieces(&mut lines)),
         ("three lines in one piece", vec![lines.take(3).concat()]),
         ("a piece that ends in a line", ends_in_a_line(&mut lines)),
     ] {
         let turns = [lines.take(1), turn, lines.take(1)];
-        report.case(format!("prompt: {name}"), talk(setting, &clips, &turns));
+        let outcome = talk(setting, asked, &table, &turns);
+        report.case(format!("prompt: {name}, {pieces}"), outcome);
     }
     let mut open = lines.take(1);
     open[0].pop();
     let turns = [lines.take(1), open];
-    let outcome = talk(setting, &clips, &turns);
-    report.case("prompt: a last line that is not closed", outcome);
-    report.case("prompt: no line at all", talk(setting, &clips, &[]));
-    report.case("prompt: the longest word", the_longest(setting));
+    let outcome = talk(setting, asked, &table, &turns);
+    report.case(
+        format!("prompt: {name}, a last line that is not closed"),
+        outcome,
+    );
+    let outcome = talk(setting, asked, &table, &[]);
+    report.case(format!("prompt: {name}, no line at all"), outcome);
 }
 
-fn two_pieces(lines: &mut ClipLines) -> Turn {
+fn two_pieces(lines: &mut Lines) -> Turn {
     let line = lines.take(1).concat();
     let (front, back) = line.split_at(line.len() / 2);
     vec![front.to_vec(), back.to_vec()]
 }
 
 /// Two lines and the front of a third: the two are answered before the rest has come.
-fn ends_in_a_line(lines: &mut ClipLines) -> Turn {
+fn ends_in_a_line(lines: &mut Lines) -> Turn {
     let two = lines.take(2).concat();
     let third = two_pieces(lines);
     vec![[two, third[0].clone()].concat(), third[1].clone()]
 }
 
-fn the_longest(setting: &Setting) -> Result<(), String> {
-    let table = setting.file("longest.table", &longest::table());
-    let line = format!("{}\n", longest::hexadecimal(&longest::tree())).into_bytes();
+/// A long line between short ones.
+fn long_talk(setting: &Setting, asked: Asked, table: &Path, long: &[u8]) -> Result<(), String> {
+    let line = format!("{}\n", longest::hexadecimal(long)).into_bytes();
     let turns = [vec![b"01\n".to_vec()], vec![line], vec![b"0201\n".to_vec()]];
-    talk(setting, &table, &turns)
+    talk(setting, asked, table, &turns)
 }
 
 /// Sends turn by turn and hears the answers, those of the second program; then closes the input and
 /// sees the end.
-fn talk(setting: &Setting, table: &Path, turns: &[Turn]) -> Result<(), String> {
+fn talk(setting: &Setting, asked: Asked, table: &Path, turns: &[Turn]) -> Result<(), String> {
     let all = turns.concat().concat();
-    let expected = second::word(setting, table, &all);
+    let expected = asked.expected(setting, table, &all);
     let mut answers = expected.split_inclusive(|&byte| byte == b'\n');
-    let mut talk = Talk::start(&setting.program("word"), table)?;
+    let mut talk = Talk::start(setting, asked, table)?;
     for piece in turns.iter().flat_map(|turn| turn.iter().enumerate()) {
         let (place, piece) = piece;
         if place > 0 {
@@ -90,7 +111,7 @@ fn talk(setting: &Setting, table: &Path, turns: &[Turn]) -> Result<(), String> {
     talk.end()
 }
 
-/// A running `word`, what is sent to it while its input is open, and its answers, line by line.
+/// A running program, what is sent to it while its input is open, and its answers, line by line.
 struct Talk {
     program: Kept,
     input: Option<Sender<Vec<u8>>>,
@@ -98,9 +119,9 @@ struct Talk {
 }
 
 impl Talk {
-    fn start(program: &Path, table: &Path) -> Result<Talk, String> {
-        let mut command = Command::new(program);
-        command.arg(table).stdin(Stdio::piped());
+    fn start(setting: &Setting, asked: Asked, table: &Path) -> Result<Talk, String> {
+        let mut command = Command::new(asked.program(setting));
+        command.args(asked.arguments(table)).stdin(Stdio::piped());
         command.stdout(Stdio::piped()).stderr(Stdio::null());
         let child = command.spawn();
         let mut program = Kept(child.map_err(|error| format!("could not be started: {error}"))?);

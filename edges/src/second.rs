@@ -29,9 +29,9 @@ pub fn on_text(setting: &Setting, name: &str, text: &[u8]) -> Vec<u8> {
     answer(call(setting, &[name.as_ref()]).reading_pipe(text))
 }
 
-pub fn word(setting: &Setting, table: &Path, lines: &[u8]) -> Vec<u8> {
-    let call = call(setting, &["word".as_ref(), table.as_ref()]);
-    answer(call.reading_pipe(lines))
+/// The answer to lines, of the command that the words say.
+pub fn on_lines(setting: &Setting, words: &[&OsStr], lines: &[u8]) -> Vec<u8> {
+    answer(call(setting, words).reading_pipe(lines))
 }
 
 pub fn compare(setting: &Setting, first: &Path, second: &Path) -> Vec<u8> {

@@ -38,6 +38,11 @@ impl Setting {
         })
     }
 
+    /// Whether the program `record` is there; it is not before it is made.
+    pub fn has_record(&self) -> bool {
+        self.program("record").is_file()
+    }
+
     pub fn program(&self, name: &str) -> PathBuf {
         self.programs.join(name)
     }

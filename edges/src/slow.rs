@@ -5,9 +5,9 @@ use std::path::Path;
 
 use fadurinko_second::rng::Rng;
 
+use crate::asked::Asked;
 use crate::check::answered;
 use crate::feed::Pieces;
-use crate::lines::ClipLines;
 use crate::report::Report;
 use crate::run::{Call, Source};
 use crate::second::{self, case_file};
@@ -18,6 +18,7 @@ const MOST_BYTES: usize = 32_768;
 const TABLES: usize = 44;
 const PAIRS: usize = 24;
 const TREES: usize = 12;
+const RECORDS: usize = 3;
 /// Lengths of pieces at which buffers of usual lengths are filled unevenly.
 const UNEVEN: [usize; 2] = [4_095, 65_537];
 const MANY_LINES: usize = 12_000;
@@ -26,8 +27,7 @@ pub fn run(setting: &Setting, report: &mut Report) {
     let mut rng = setting.rng("slow");
     judged_and_formed(setting, &mut rng, report);
     compared(setting, &mut rng, report);
-    worded(setting, &mut rng, report);
-    uneven_pieces(setting, report);
+    lines(setting, &mut rng, report);
     long_texts(setting, &mut rng, report);
 }
 
@@ -83,32 +83,31 @@ fn compared(setting: &Setting, rng: &mut Rng, report: &mut Report) {
     report.case("slow: compare /dev/fd/0", outcome);
 }
 
-/// Table and trees slowly.
-fn worded(setting: &Setting, rng: &mut Rng, report: &mut Report) {
-    for (index, case) in second::cases(setting, "trees", TREES).iter().enumerate() {
-        let ((path, table), (_, lines)) = (case_file(case, "table"), case_file(case, "trees"));
-        let expected = second::word(setting, &path, &lines);
-        let pipe = named(setting, &table, rng);
-        let call = Call::new(setting.program("word")).arg(pipe);
-        let outcome = answered(&expected, &slowly(call, &lines, rng).run());
-        report.case(format!("slow: word, trees {index}"), outcome);
+/// Table and lines slowly.
+fn lines(setting: &Setting, rng: &mut Rng, report: &mut Report) {
+    for asked in Asked::all(setting) {
+        let (kind, ending) = asked.cases();
+        let count = if kind == "trees" { TREES } else { RECORDS };
+        for (index, case) in second::cases(setting, kind, count).iter().enumerate() {
+            let ((path, table), (_, lines)) = (case_file(case, "table"), case_file(case, ending));
+            let expected = asked.expected(setting, &path, &lines);
+            let call = asked.call(setting, &named(setting, &table, rng));
+            let outcome = answered(&expected, &slowly(call, &lines, rng).run());
+            report.case(format!("slow: {}, {kind} {index}", asked.name()), outcome);
+        }
+        uneven_pieces(setting, asked, report);
     }
 }
 
-fn uneven_pieces(setting: &Setting, report: &mut Report) {
-    let clips = setting.example("clips.table");
-    let lines = ClipLines::new(setting.rng("uneven"))
-        .take(MANY_LINES)
-        .concat();
-    let expected = second::word(setting, &clips, &lines);
+fn uneven_pieces(setting: &Setting, asked: Asked, report: &mut Report) {
+    let table = asked.example(setting);
+    let lines = asked.lines(setting.rng("uneven")).take(MANY_LINES).concat();
+    let expected = asked.expected(setting, &table, &lines);
     for length in UNEVEN {
         let pieces = Source::Pieces(Pieces::of_length(&lines, length));
-        let seen = Call::new(setting.program("word"))
-            .arg(&clips)
-            .source(pieces)
-            .run();
+        let seen = asked.call(setting, &table).source(pieces).run();
         report.case(
-            format!("slow: word, pieces of {length} bytes"),
+            format!("slow: {}, pieces of {length} bytes", asked.name()),
             answered(&expected, &seen),
         );
     }
@@ -143,10 +142,13 @@ fn long_files(setting: &Setting, text: &[u8], rng: &mut Rng, report: &mut Report
     let (clips, long) = (setting.example("clips.table"), setting.file("long", text));
     let length = text.len();
     let lines = b"000102030402\n\nno tree\n";
-    let expected = second::word(setting, &long, lines);
-    let call = Call::new(setting.program("word")).arg(named(setting, text, rng));
-    let outcome = answered(&expected, &call.reading_pipe(lines).run());
-    report.case(format!("slow: word, table of {length} bytes"), outcome);
+    for asked in Asked::all(setting) {
+        let expected = asked.expected(setting, &long, lines);
+        let call = asked.call(setting, &named(setting, text, rng));
+        let outcome = answered(&expected, &call.reading_pipe(lines).run());
+        let name = format!("slow: {}, table of {length} bytes", asked.name());
+        report.case(name, outcome);
+    }
     for place in 0..2 {
         let mut files = [clips.clone(), clips.clone()];
         files[place] = long.clone();

@@ -2,8 +2,9 @@
 
 use std::path::Path;
 
+use crate::asked::{Asked, OF_RECORDS};
 use crate::check::answered;
-use crate::large::longest_lines;
+use crate::large::{largest_records, longest_lines};
 use crate::longest;
 use crate::report::Report;
 use crate::run::Call;
@@ -14,6 +15,8 @@ const SMALL: &str = "ulimit -s 4096; exec \"$0\" \"$@\"";
 
 /// Of so many generated tables the largest is taken that is earliest, so that all of it is judged.
 const LOOKED_AT: usize = 200;
+/// So many lines under the table of an example.
+const LINES: usize = 50;
 
 pub fn run(setting: &Setting, report: &mut Report) {
     let clips = setting.example("clips.table");
@@ -29,11 +32,24 @@ pub fn run(setting: &Setting, report: &mut Report) {
     let files = [clips.clone(), setting.example("tidied.table")];
     let seen = small(setting, "compare").args(&files).run();
     report.case("small stack: compare", answered(b"same\n", &seen));
-    let lines = b"000102030402\n00020302\n0002\n02\n";
-    report.case("small stack: word", worded(setting, &clips, lines));
+    for asked in Asked::all(setting) {
+        let lines = asked.lines(setting.rng("stack")).take(LINES).concat();
+        let outcome = on_lines(setting, asked, &asked.example(setting), &lines);
+        report.case(format!("small stack: {}", asked.name()), outcome);
+    }
     let table = setting.file("longest.table", &longest::table());
-    let outcome = worded(setting, &table, &longest_lines());
+    let outcome = on_lines(setting, Asked::Word, &table, &longest_lines());
     report.case("small stack: word, the longest word", outcome);
+    if setting.has_record() {
+        let table = setting.file("longest.table", &longest::record_table());
+        for asked in OF_RECORDS {
+            let outcome = on_lines(setting, asked, &table, &largest_records(asked));
+            report.case(
+                format!("small stack: {}, the largest record", asked.name()),
+                outcome,
+            );
+        }
+    }
 }
 
 fn largest_table(setting: &Setting) -> Vec<u8> {
@@ -52,8 +68,8 @@ fn small(setting: &Setting, name: &str) -> Call {
     call.arg(setting.program(name))
 }
 
-fn worded(setting: &Setting, table: &Path, lines: &[u8]) -> Result<(), String> {
-    let expected = second::word(setting, table, lines);
-    let seen = small(setting, "word").arg(table).reading_pipe(lines).run();
-    answered(&expected, &seen)
+fn on_lines(setting: &Setting, asked: Asked, table: &Path, lines: &[u8]) -> Result<(), String> {
+    let expected = asked.expected(setting, table, lines);
+    let call = small(setting, asked.words()[0]).args(&asked.arguments(table));
+    answered(&expected, &call.reading_pipe(lines).run())
 }

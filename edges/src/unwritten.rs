@@ -3,6 +3,7 @@
 use std::fs::OpenOptions;
 use std::path::{Path, PathBuf};
 
+use crate::asked::{Asked, OF_RECORDS};
 use crate::check::{exact_lines, shown};
 use crate::report::Report;
 use crate::run::{Call, Seen};
@@ -17,6 +18,11 @@ pub fn run(setting: &Setting, report: &mut Report) {
     let damaged = setting.file("damaged", b"0103\n04\n");
     for (name, call) in calls(setting, &clips, &damaged) {
         report.case(format!("full: {name}"), told_full(call));
+    }
+    if setting.has_record() {
+        for (name, call) in record_calls(setting) {
+            report.case(format!("full: {name}"), told_full(call));
+        }
     }
 }
 
@@ -41,6 +47,28 @@ fn calls(setting: &Setting, clips: &Path, damaged: &Path) -> Vec<(&'static str, 
         ("word, not hex", worded(b"no tree\n")),
         ("word, many words", worded(&b"000102030402\n".repeat(MANY))),
     ]
+}
+
+/// `record` in each mode, with each kind of its answers.
+fn record_calls(setting: &Setting) -> Vec<(String, Call)> {
+    let mut calls = Vec::new();
+    for asked in OF_RECORDS {
+        let good = match asked {
+            Asked::RecordBack => "0001020302030301030303\n",
+            _ => "000102ff02ffff01ffff\n",
+        };
+        for (answer, lines) in [
+            ("an answer", good),
+            ("a no", "00\n"),
+            ("not hex", "no record\n"),
+            ("many answers", &good.repeat(MANY)),
+        ] {
+            let call = asked.call(setting, &asked.example(setting)).at_once();
+            let name = format!("{}, {answer}", asked.name());
+            calls.push((name, call.reading_pipe(lines.as_bytes())));
+        }
+    }
+    calls
 }
 
 fn told_full(call: Call) -> Result<(), String> {

@@ -1,5 +1,5 @@
-//! How the programs are called: too many or too few arguments, help, files that cannot be read, and
-//! a file in place of standard input.
+//! How the programs are called: too many or too few arguments, help, modes that there are not, files that
+//! cannot be read, and a file in place of standard input.
 
 use std::fs;
 use std::path::{Path, PathBuf};
@@ -17,45 +17,67 @@ struct Program {
     answers: &'static [&'static str],
     /// Arguments that are too few or too many.
     wrong: &'static [&'static [&'static str]],
+    /// What stands before the files.
+    mode: &'static [&'static str],
     /// How many files it may be given.
     files: usize,
 }
 
-const PROGRAMS: [Program; 4] = [
+const PROGRAMS: [Program; 5] = [
     Program {
         name: "judge",
         answers: &["earliest", "no NUMBER PLACE"],
         wrong: &[&["a", "b"]],
+        mode: &[],
         files: 1,
     },
     Program {
         name: "form",
         answers: &["no NUMBER PLACE"],
         wrong: &[&["a", "b"]],
+        mode: &[],
         files: 1,
     },
     Program {
         name: "compare",
         answers: &["same", "different", "no TABLE NUMBER PLACE"],
         wrong: &[&[], &["a"], &["a", "b", "c"]],
+        mode: &[],
         files: 2,
     },
     Program {
         name: "word",
         answers: &["word LENGTH TERMS HEX", "no NUMBER PLACE"],
         wrong: &[&[], &["a", "b"]],
+        mode: &[],
+        files: 1,
+    },
+    Program {
+        name: "record",
+        answers: &["MODE TABLEFILE", "word, tree or back", "no NUMBER PLACE"],
+        wrong: &[&[], &["word"], &["word", "a", "b"]],
+        mode: &["tree"],
         files: 1,
     },
 ];
+
+/// Modes that there are not.
+const WRONG_MODES: [&str; 7] = ["words", "wor", "WORD", " tree", "back ", "--", ""];
 
 /// How many generated tables are given as files.
 const TABLES: usize = 9;
 
 pub fn run(setting: &Setting, report: &mut Report) {
-    for program in &PROGRAMS {
+    let [others @ .., record] = &PROGRAMS;
+    let record = setting.has_record().then_some(record);
+    for program in others.iter().chain(record) {
         wrong_arguments(program, setting, report);
         help(program, setting, report);
         unreadable_files(program, setting, report);
+    }
+    match record {
+        Some(record) => wrong_modes(record, setting, report),
+        None => report.not_tried("record, because it is not there yet"),
     }
     for name in ["judge", "form"] {
         files_for_standard_input(name, setting, report);
@@ -136,7 +158,8 @@ fn unreadable_files(program: &Program, setting: &Setting, report: &mut Report) {
         ] {
             let mut paths = vec![good.clone(); program.files];
             paths[place] = path.clone();
-            let seen = call(program, setting).args(&paths).run();
+            let seen = call(program, setting).args(program.mode);
+            let seen = seen.args(&paths).run();
             let name = format!("usage: {}, file {}: {cause}", program.name, place + 1);
             report.case(name, told_unreadable(program, path, cause, &seen));
         }
@@ -151,6 +174,31 @@ fn told_unreadable(program: &Program, path: &Path, cause: &str, seen: &Seen) -> 
     if !lines[0].contains(&told) {
         let line = shown(lines[0].as_bytes());
         return Err(format!("expected `{told}` in the first line, seen {line}"));
+    }
+    begins_usage(program, &lines[1])
+}
+
+/// A mode that there is not is told at once, with those that there are, whatever the file is.
+fn wrong_modes(program: &Program, setting: &Setting, report: &mut Report) {
+    for file in [setting.example("records.table"), setting.fresh("lacking")] {
+        for mode in WRONG_MODES {
+            let seen = call(program, setting).arg(mode).arg(&file).run();
+            report.case(
+                format!("usage: record, mode {mode:?}"),
+                told_modes(program, mode, &seen),
+            );
+        }
+    }
+}
+
+fn told_modes(program: &Program, mode: &str, seen: &Seen) -> Result<(), String> {
+    seen.ended_well()?;
+    silent("standard output", &seen.out)?;
+    let lines = exact_lines(2, &seen.err)?;
+    let told = format!("{mode}: not a mode; there are word, tree and back");
+    if lines[0] != told {
+        let line = shown(lines[0].as_bytes());
+        return Err(format!("expected `{told}`, seen {line}"));
     }
     begins_usage(program, &lines[1])
 }

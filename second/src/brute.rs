@@ -2,6 +2,8 @@
 //! trees, languages as sets of words. Nothing here uses the shape check, the
 //! walk, the judgement or the classes of the other modules.
 
+pub mod records;
+
 use std::collections::{BTreeSet, HashSet};
 use std::rc::Rc;
 

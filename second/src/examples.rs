@@ -1,4 +1,4 @@
-//! The worked tables of the documents.
+//! The worked tables of the documents, and one for records.
 
 use crate::table::{Child, Initial, Rule, Table};
 
@@ -116,6 +116,21 @@ pub fn counting() -> Table {
         rules: vec![
             rule(0, 0, "cc", &[(0, ""), (0, "")]),
             rule(0, 1, "", &[]),
+            rule(0, 2, "", &[]),
+        ],
+    }
+}
+
+/// A table for records, for which the documents have none: symbols a, b and the
+/// absent one. The word of a record is its stream in brackets.
+pub fn brackets() -> Table {
+    Table {
+        arities: vec![2, 2, 0],
+        states: 1,
+        initial: initial("", 0, ""),
+        rules: vec![
+            rule(0, 0, "(", &[(0, ")"), (0, "")]),
+            rule(0, 1, "[", &[(0, "]"), (0, "")]),
             rule(0, 2, "", &[]),
         ],
     }

@@ -1,10 +1,11 @@
-//! Generated cases: table texts, tables with trees, pairs of tables. A case is
-//! settled by its kind, the seed and its index. Recipes are taken in turn, so
-//! that some hundred cases have used every recipe.
+//! Generated cases: table texts, tables with trees, tables with records, pairs
+//! of tables. A case is settled by its kind, the seed and its index. Recipes are
+//! taken in turn, so that some hundred cases have used every recipe.
 
 pub mod damage;
 pub mod late;
 pub mod pairs;
+pub mod records;
 pub mod sample;
 pub mod tables;
 pub mod trees;

@@ -24,6 +24,12 @@ pub fn decode_onto(digits: &[u8], bytes: &mut Vec<u8>) -> bool {
     true
 }
 
+/// What each line of a text spells. The last line need not be closed.
+pub fn decode_lines(text: &[u8]) -> impl Iterator<Item = Option<Vec<u8>>> + '_ {
+    let closed = text.strip_suffix(b"\n").unwrap_or(text);
+    closed.split(|&byte| byte == b'\n').map(decode)
+}
+
 fn digit_value(digit: u8) -> Option<u8> {
     match digit {
         b'0'..=b'9' => Some(digit - b'0'),

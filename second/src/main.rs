@@ -9,21 +9,24 @@ use std::process::ExitCode;
 
 use fadurinko_second::compare::compare;
 use fadurinko_second::form::form_text;
-use fadurinko_second::gen::{pairs, tables, trees};
+use fadurinko_second::gen::{pairs, records, tables, trees};
 use fadurinko_second::hex;
 use fadurinko_second::judge::judge;
 use fadurinko_second::limits::MAX_TEXT;
+use fadurinko_second::record::Desk;
 use fadurinko_second::refusal::Refusal;
 use fadurinko_second::selftest;
-use fadurinko_second::table;
-use fadurinko_second::walk::Walker;
+use fadurinko_second::table::{self, Table};
+use fadurinko_second::walk::{Found, Walker};
 
 const USAGE: &str = "usage:
   second form                        table text on standard input
   second judge                       table text on standard input
   second word TABLEFILE              trees in hexadecimal on standard input
+  second record MODE TABLEFILE       MODE is word, tree or back; records (for
+                                     back trees) in hexadecimal on standard input
   second compare FILE1 FILE2
-  second gen KIND SEED COUNT DIR     KIND is tables, trees or pairs
+  second gen KIND SEED COUNT DIR     KIND is tables, trees, records or pairs
   second classes KIND SEED COUNT
   second selftest [SEED]";
 
@@ -48,6 +51,7 @@ fn run(arguments: &[OsString]) -> Result<ExitCode, String> {
         ["form"] => run_form(),
         ["judge"] => run_judge(),
         ["word", _] => run_word(path(1)),
+        ["record", mode, _] => run_record(mode, path(2)),
         ["compare", _, _] => run_compare(path(1), path(2)),
         ["gen", kind, seed, count, _] => {
             generate(kind, number(seed)?, number(count)? as usize, path(4))
@@ -124,14 +128,13 @@ fn run_compare(first: &Path, second: &Path) -> Result<ExitCode, String> {
     }
 }
 
-fn run_word(table_file: &Path) -> Result<ExitCode, String> {
-    let text = read_file(table_file)?;
-    let table = table::read(&text);
-    let walker = table.as_ref().map(Walker::new).map_err(|refusal| *refusal);
-    let mut answerer = WordAnswerer::new(walker);
+/// Answers each line of standard input: `answer` is given what the line spells
+/// and puts its answer behind the empty bytes that it is lent. Memory is used
+/// again from line to line.
+fn answer_lines(mut answer: impl FnMut(&[u8], &mut Vec<u8>)) -> Result<ExitCode, String> {
     let mut input = io::stdin().lock();
     let mut out = BufWriter::new(io::stdout().lock());
-    let mut line = Vec::new();
+    let (mut line, mut bytes, mut answered) = (Vec::new(), Vec::new(), Vec::new());
     loop {
         line.clear();
         let read = input.read_until(b'\n', &mut line);
@@ -141,60 +144,91 @@ fn run_word(table_file: &Path) -> Result<ExitCode, String> {
         if line.last() == Some(&b'\n') {
             line.pop();
         }
-        out.write_all(answerer.answer(&line)).map_err(said)?;
+        answered.clear();
+        if hex::decode_onto(&line, &mut bytes) {
+            answer(&bytes, &mut answered);
+        } else {
+            answered.extend_from_slice(b"not hex");
+        }
+        answered.push(b'\n');
+        out.write_all(&answered).map_err(said)?;
     }
     out.flush().map_err(said)?;
     Ok(ExitCode::SUCCESS)
 }
 
-/// Answers lines of trees; its memory is used again from line to line.
-struct WordAnswerer<'table> {
-    walker: Result<Walker<'table>, Refusal>,
-    tree: Vec<u8>,
-    word: Vec<u8>,
-    answer: Vec<u8>,
+fn put_refusal(refusal: Refusal, answer: &mut Vec<u8>) {
+    answer.extend_from_slice(refusal.to_string().as_bytes());
 }
 
-impl<'table> WordAnswerer<'table> {
-    fn new(walker: Result<Walker<'table>, Refusal>) -> WordAnswerer<'table> {
-        WordAnswerer {
-            walker,
-            tree: Vec::new(),
-            word: Vec::new(),
-            answer: Vec::new(),
+fn put_word(found: Result<Found, Refusal>, word: &[u8], answer: &mut Vec<u8>) {
+    match found {
+        Ok(Found { length, terms }) => {
+            answer.extend_from_slice(format!("word {length} {terms}").as_bytes());
+            if !word.is_empty() {
+                answer.push(b' ');
+                hex::encode_onto(word, answer);
+            }
         }
+        Err(refusal) => put_refusal(refusal, answer),
     }
+}
 
-    /// The answer to one line, with a line feed.
-    fn answer(&mut self, line: &[u8]) -> &[u8] {
-        self.answer.clear();
-        if hex::decode_onto(line, &mut self.tree) {
-            self.answer_tree();
-        } else {
-            self.answer.extend_from_slice(b"not hex");
+/// What is never empty, with what it is called in front of it.
+fn put_bytes(name: &str, bytes: Result<Vec<u8>, Refusal>, answer: &mut Vec<u8>) {
+    match bytes {
+        Ok(bytes) => {
+            answer.extend_from_slice(name.as_bytes());
+            answer.push(b' ');
+            hex::encode_onto(&bytes, answer);
         }
-        self.answer.push(b'\n');
-        &self.answer
+        Err(refusal) => put_refusal(refusal, answer),
     }
+}
 
-    fn answer_tree(&mut self) {
-        let found = match &self.walker {
-            Ok(walker) => walker.word(&self.tree, &mut self.word),
+fn run_word(table_file: &Path) -> Result<ExitCode, String> {
+    let table = table::read(&read_file(table_file)?);
+    let walker = table.as_ref().map(Walker::new).map_err(|refusal| *refusal);
+    let mut word = Vec::new();
+    answer_lines(|tree, answer| {
+        let found = match &walker {
+            Ok(walker) => walker.word(tree, &mut word),
             Err(refusal) => Err(*refusal),
         };
-        match found {
-            Ok(found) => {
-                let start = format!("word {} {}", found.length, found.terms);
-                self.answer.extend_from_slice(start.as_bytes());
-                if !self.word.is_empty() {
-                    self.answer.push(b' ');
-                    hex::encode_onto(&self.word, &mut self.answer);
-                }
-            }
-            Err(refusal) => self
-                .answer
-                .extend_from_slice(refusal.to_string().as_bytes()),
-        }
+        put_word(found, &word, answer);
+    })
+}
+
+fn run_record(mode: &str, table_file: &Path) -> Result<ExitCode, String> {
+    let mode = match mode {
+        "word" => Mode::Word,
+        "tree" => Mode::Tree,
+        "back" => Mode::Back,
+        _ => return Err(format!("{mode}: not a mode; there are word, tree and back")),
+    };
+    let table = table::read(&read_file(table_file)?);
+    let desk = desk_of(&table);
+    let mut word = Vec::new();
+    answer_lines(|bytes, answer| match (&desk, mode) {
+        (Err(refusal), _) => put_refusal(*refusal, answer),
+        (Ok(desk), Mode::Word) => put_word(desk.word(bytes, &mut word), &word, answer),
+        (Ok(desk), Mode::Tree) => put_bytes("tree", desk.tree(bytes), answer),
+        (Ok(desk), Mode::Back) => put_bytes("record", desk.record(bytes), answer),
+    })
+}
+
+/// What is asked for: the word or the tree of a record, the record of a tree.
+#[derive(Clone, Copy)]
+enum Mode {
+    Word,
+    Tree,
+    Back,
+}
+
+fn desk_of(table: &Result<Table, Refusal>) -> Result<Desk<'_>, Refusal> {
+    match table {
+        Ok(table) => Desk::new(table),
+        Err(refusal) => Err(*refusal),
     }
 }
 
@@ -220,6 +254,14 @@ fn case_files(kind: &str, seed: u64, index: usize) -> Result<Vec<CaseFile>, Stri
             let case = trees::case(seed, index);
             Ok(vec![("table", case.table), ("trees", case.lines)])
         }
+        "records" => {
+            let case = records::case(seed, index);
+            Ok(vec![
+                ("table", case.table),
+                ("records", case.records),
+                ("backs", case.backs),
+            ])
+        }
         "pairs" => {
             let case = pairs::case(seed, index);
             Ok(vec![("a", case.first), ("b", case.second)])
@@ -236,6 +278,9 @@ fn run_classes(kind: &str, seed: u64, count: usize) -> Result<ExitCode, String> 
             [(_, table)] => classes.count(&class_of_judgement(table)),
             [("table", table), (_, lines)] => count_lines(&mut classes, table, lines),
             [(_, first), (_, second)] => classes.count(&class_of_pair(first, second)),
+            [(_, table), (_, records), (_, trees)] => {
+                count_record_lines(&mut classes, table, records, trees);
+            }
             _ => {}
         }
     }
@@ -251,6 +296,15 @@ impl Classes {
         let names: Vec<String> = match kind {
             "tables" => table.map(class_of_number).collect(),
             "trees" => (1..=11).map(class_of_number).collect(),
+            "records" => {
+                let of_stream = (1..=6).chain([10]).chain(20..=23);
+                let of_tree = (1..=8).chain([10, 11, 20, 24]);
+                let words = of_stream.clone().chain([9]);
+                let words = words.map(|number| class_in_mode("word", number));
+                let trees = of_stream.map(|number| class_in_mode("tree", number));
+                let backs = of_tree.map(|number| class_in_mode("back", number));
+                words.chain(trees).chain(backs).collect()
+            }
             _ => table
                 .flat_map(|number| [1, 2].map(|which| class_of_pair_number(which, number)))
                 .collect(),
@@ -294,13 +348,16 @@ fn class_of_pair(first: &[u8], second: &[u8]) -> String {
     }
 }
 
+fn class_in_mode(mode: &str, number: u8) -> String {
+    format!("{mode}: {}", class_of_number(number))
+}
+
 fn count_lines(classes: &mut Classes, table: &[u8], lines: &[u8]) {
     let table = table::read(table);
     let walker = table.as_ref().map(Walker::new).map_err(|refusal| *refusal);
     let mut word = Vec::new();
-    let closed = lines.strip_suffix(b"\n").unwrap_or(lines);
-    for line in closed.split(|&byte| byte == b'\n') {
-        let answer = hex::decode(line).map(|tree| match &walker {
+    for tree in hex::decode_lines(lines) {
+        let answer = tree.map(|tree| match &walker {
             Ok(walker) => walker.word(&tree, &mut word).map(|_| ()),
             Err(refusal) => Err(*refusal),
         });
@@ -309,6 +366,25 @@ fn count_lines(classes: &mut Classes, table: &[u8], lines: &[u8]) {
             Some(Ok(())) => classes.count("word"),
             Some(Err(refusal)) => classes.count(&class_of_number(refusal.number)),
         }
+    }
+}
+
+fn count_record_lines(classes: &mut Classes, table: &[u8], records: &[u8], trees: &[u8]) {
+    let table = table::read(table);
+    let desk = desk_of(&table);
+    let desk = desk.as_ref().map_err(|refusal| *refusal);
+    let mut count = |mode: &str, answer: Result<(), Refusal>| match answer {
+        Ok(()) => classes.count(&format!("{mode}: yes")),
+        Err(refusal) => classes.count(&class_in_mode(mode, refusal.number)),
+    };
+    let mut word = Vec::new();
+    for record in hex::decode_lines(records).flatten() {
+        let found = desk.and_then(|desk| desk.word(&record, &mut word));
+        count("word", found.map(|_| ()));
+        count("tree", desk.and_then(|desk| desk.tree(&record)).map(|_| ()));
+    }
+    for tree in hex::decode_lines(trees).flatten() {
+        count("back", desk.and_then(|desk| desk.record(&tree)).map(|_| ()));
     }
 }
 

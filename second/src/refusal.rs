@@ -21,6 +21,11 @@ pub const COMMON_SUFFIX: u8 = 16;
 pub const LATE_INITIAL_RULE: u8 = 17;
 pub const LATE_RULE: u8 = 18;
 pub const SYMBOL_LISTS: u8 = 19;
+pub const RECORD_SYMBOLS: u8 = 20;
+pub const STREAM_BYTE: u8 = 21;
+pub const STREAM_CLOSE: u8 = 22;
+pub const SECOND_ROOT: u8 = 23;
+pub const NO_IMAGE: u8 = 24;
 
 /// A no: its number and its place.
 #[derive(Clone, Copy, Debug, PartialEq, Eq, Hash)]

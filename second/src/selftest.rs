@@ -1,6 +1,8 @@
 //! Checks of the library against the definitions taken literally (`brute`) and
 //! against what the generator knows about its cases.
 
+mod records;
+
 use std::io::{self, Write};
 
 use crate::brute;
@@ -66,6 +68,13 @@ const CHECKS: &[Check] = &[
     ("same exactly when the forms agree", same_means_equal_forms),
     ("a word in every room", words_in_rooms),
     ("a form in every room", forms_in_rooms),
+    ("symbol lists for records", records::lists),
+    ("every small record both ways", records::both_ways),
+    ("streams of all short byte strings", records::short_streams),
+    ("records of all short trees", records::short_trees),
+    ("words of all small records", records::words),
+    ("generated records and trees", records::generated_lines),
+    ("records and trees in every room", records::in_rooms),
 ];
 
 /// Runs all checks, one line each; says whether all passed.

@@ -72,6 +72,61 @@ fn word_by_a_refused_table() {
 }
 
 #[test]
+fn record_answers_each_line() {
+    let table = file("brackets.table", &table::write(&examples::brackets()));
+    let records = b"0001ffff\n\nff\n00ff00\n00f\n02\n00FF\n00ff\r\n01ff";
+    let refused = "no 22 0\nno 22 0\nno 23 2\nnot hex\nno 21 0\nnot hex\nnot hex\n";
+    let words = format!("word 4 1 285b5d29\n{refused}word 2 1 5b5d\n");
+    assert_eq!(said(&["record", "word", &table], records), words);
+    let trees = format!("tree 0001020202\n{refused}tree 010202\n");
+    assert_eq!(said(&["record", "tree", &table], records), trees);
+    let trees = b"0001020202\n\n02\n0002010202\n0\n03\n0002\n010202";
+    let back = "record 0001ffff\nno 6 0\nno 24 0\nno 24 2\nnot hex\nno 7 0\nno 8 2\n\
+        record 01ff\n";
+    assert_eq!(said(&["record", "back", &table], trees), back);
+    for mode in ["word", "tree", "back"] {
+        assert_eq!(said(&["record", mode, &table], b""), "");
+    }
+}
+
+#[test]
+fn record_with_an_empty_word() {
+    let mut quiet = examples::brackets();
+    for rule in &mut quiet.rules {
+        rule.before.clear();
+        rule.children
+            .iter_mut()
+            .for_each(|child| child.after.clear());
+    }
+    let table = file("quiet.table", &table::write(&quiet));
+    assert_eq!(said(&["record", "word", &table], b"00ff\n"), "word 0 1\n");
+}
+
+#[test]
+fn record_by_a_refused_table() {
+    let damaged = file("damaged.table", b"0102\n04\n");
+    let listing = file("listing.table", LISTING_INPUT.as_bytes());
+    for mode in ["word", "tree", "back"] {
+        let answers = "no 3 5\nnot hex\nno 3 5\n";
+        assert_eq!(said(&["record", mode, &damaged], b"00ff\nxy\n\n"), answers);
+        let answers = "no 20 1\nnot hex\nno 20 1\n";
+        assert_eq!(said(&["record", mode, &listing], b"00ff\n0\n\n"), answers);
+    }
+}
+
+#[test]
+fn record_in_another_mode() {
+    let output = second(&["record", "words", "lacking.table"], b"");
+    let message = String::from_utf8(output.stderr).unwrap();
+    assert_eq!(
+        message,
+        "words: not a mode; there are word, tree and back\n"
+    );
+    assert!(output.stdout.is_empty());
+    assert_eq!(output.status.code(), Some(2));
+}
+
+#[test]
 fn compare_answers() {
     let first = file("first.table", LISTING_INPUT.as_bytes());
     let second = file("second.table", LISTING_OUTPUT.as_bytes());
@@ -89,8 +144,9 @@ fn compare_answers() {
 fn files_that_cannot_be_read_are_named() {
     let good = file("good.table", LISTING_INPUT.as_bytes());
     let directory = env!("CARGO_TARGET_TMPDIR");
-    let calls: [&[&str]; 4] = [
+    let calls: [&[&str]; 5] = [
         &["word", "lacking.table"],
+        &["record", "back", "lacking.table"],
         &["compare", "lacking.table", &good],
         &["compare", &good, "lacking.table"],
         &["word", directory],
@@ -111,6 +167,7 @@ fn generated_cases_are_settled_by_the_seed() {
     for (kind, endings) in [
         ("tables", &["table"][..]),
         ("trees", &["table", "trees"]),
+        ("records", &["table", "records", "backs"]),
         ("pairs", &["a", "b"]),
     ] {
         let _ = fs::remove_dir_all(&directory);
@@ -131,8 +188,13 @@ fn generated_cases_are_settled_by_the_seed() {
 
 #[test]
 fn every_class_is_hit() {
-    for kind in ["tables", "trees", "pairs"] {
-        let classes = said(&["classes", kind, "1", "2000"], b"");
+    for (kind, count) in [
+        ("tables", "2000"),
+        ("trees", "2000"),
+        ("records", "400"),
+        ("pairs", "2000"),
+    ] {
+        let classes = said(&["classes", kind, "1", count], b"");
         assert!(classes.lines().count() > 10);
         assert!(
             classes.lines().all(|line| !line.ends_with(": 0")),
@@ -146,6 +208,7 @@ fn other_calls_are_answered_with_the_usage() {
     for arguments in [
         &[][..],
         &["form", "x"],
+        &["record", "word"],
         &["gen", "tables", "x", "1", "d"],
         &["what"],
     ] {

@@ -104,7 +104,27 @@ fn random_arity(rng: &mut Rng) -> u8 {
 
 /// Any readable table; most of them are late.
 pub fn readable(rng: &mut Rng, scale: Scale) -> Table {
+    let stock = Stock::random(rng, scale);
+    readable_by(rng, stock)
+}
+
+/// A readable table over this symbol list; of a hundred places for a rule about
+/// `filled` are filled, or less if that is too much for a text.
+pub fn readable_over(
+    rng: &mut Rng,
+    scale: Scale,
+    arities: &[u8],
+    states: usize,
+    filled: usize,
+) -> Table {
     let mut stock = Stock::random(rng, scale);
+    stock.arities = arities.to_vec();
+    stock.states = states;
+    stock.filled = filled;
+    readable_by(rng, stock)
+}
+
+fn readable_by(rng: &mut Rng, mut stock: Stock) -> Table {
     loop {
         let table = readable_from(rng, &stock);
         if table::write(&table).len() <= MAX_TEXT {

@@ -73,7 +73,7 @@ fn refused_table(rng: &mut Rng, round: usize) -> TreesCase {
 }
 
 /// Mostly the last line is closed, but it need not be.
-fn joined(rng: &mut Rng, lines: &[Vec<u8>]) -> Vec<u8> {
+pub(super) fn joined(rng: &mut Rng, lines: &[Vec<u8>]) -> Vec<u8> {
     let mut text = lines.join(&b'\n');
     if rng.percent(70) {
         text.push(b'\n');
@@ -108,13 +108,13 @@ fn lines_for(rng: &mut Rng, table: &Table) -> Vec<Vec<u8>> {
     lines
 }
 
-fn unknown_symbol(rng: &mut Rng, table: &Table) -> u8 {
+pub(super) fn unknown_symbol(rng: &mut Rng, table: &Table) -> u8 {
     rng.byte_between(table.arities.len() as u8, 255)
 }
 
 /// A tree with an unknown symbol, cut, with symbols behind it, and with another
 /// symbol of the same arity at its root, in the middle and at its last leaf.
-fn spoiled(rng: &mut Rng, table: &Table, tree: &[u8]) -> [Vec<u8>; 6] {
+pub(super) fn spoiled(rng: &mut Rng, table: &Table, tree: &[u8]) -> [Vec<u8>; 6] {
     let mut unknown = tree.to_vec();
     let mut cut = tree.to_vec();
     let mut longer = tree.to_vec();
@@ -152,7 +152,7 @@ fn with_other_symbol(rng: &mut Rng, table: &Table, tree: &[u8], place: usize) ->
 
 /// A deep tree with an unknown symbol at the place where depth 65 begins if the
 /// path goes along first children, one before and one behind it, and cut.
-fn spoiled_deep(rng: &mut Rng, table: &Table, tree: &[u8]) -> [Vec<u8>; 4] {
+pub(super) fn spoiled_deep(rng: &mut Rng, table: &Table, tree: &[u8]) -> [Vec<u8>; 4] {
     let mut trees = [MAX_DEPTH - 1, MAX_DEPTH, MAX_DEPTH + 1, 0].map(|place| {
         let mut tree = tree.to_vec();
         if place > 0 && place < tree.len() {
@@ -165,7 +165,7 @@ fn spoiled_deep(rng: &mut Rng, table: &Table, tree: &[u8]) -> [Vec<u8>; 4] {
     trees
 }
 
-fn not_hexadecimal(rng: &mut Rng, tree: &[u8]) -> Vec<Vec<u8>> {
+pub(super) fn not_hexadecimal(rng: &mut Rng, tree: &[u8]) -> Vec<Vec<u8>> {
     let mut lines: Vec<Vec<u8>> = [
         &b"0"[..],
         b"0g",
