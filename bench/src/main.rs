@@ -1,18 +1,20 @@
 //! `bench` prints what each task takes and its ratios; `bench times` prints the medians for the run
-//! script, `bench counted` does each piece of work once for an instruction counter, `bench counts`
-//! prints sweeps and row comparisons, `bench agree` only compares all hands' answers;
-//! `bench TASK HAND COUNT` does one piece of work COUNT times.
+//! script, `bench counted` does each piece of work once for an instruction counter, both for all
+//! modules or for the one that is named; `bench counts` prints sweeps and row comparisons, `bench
+//! agree` only compares all hands' answers; `bench TASK HAND COUNT` does one piece of work COUNT times.
 
 mod best;
 mod compare;
 mod counts;
 mod form;
 mod grow;
+mod hands;
 mod judge;
 mod open;
 mod opened;
 mod plain;
 mod proved;
+mod record;
 mod shapes;
 mod task;
 mod tuned;
@@ -27,17 +29,25 @@ const MODULES: &[(&str, fn() -> Vec<Task>)] = &[
     ("judge", judge::tasks),
     ("form", form::tasks),
     ("compare", compare::tasks),
+    ("record", record::tasks),
 ];
 
-/// The hands whose instructions are counted.
-const COUNTED: [&str; 2] = ["proved", "tuned"];
+/// The beginning of all modules' names.
+const ALL: &str = "";
 
-fn tasks() -> impl Iterator<Item = Task> {
-    MODULES.iter().flat_map(|(_, tasks)| tasks())
+/// The hands whose instructions are counted.
+const COUNTED: [&str; 4] = ["proved", "tuned", "spelled", "bytes"];
+
+/// The tasks of the modules whose names begin so.
+fn tasks(module: &str) -> impl Iterator<Item = Task> + '_ {
+    MODULES
+        .iter()
+        .filter(move |(name, _)| name.starts_with(module))
+        .flat_map(|(_, tasks)| tasks())
 }
 
 fn table() {
-    for mut task in tasks() {
+    for mut task in tasks(ALL) {
         let times = medians(&mut task);
         let per_unit = times[0] / task.units as f64;
         let ratio =
@@ -53,8 +63,8 @@ fn table() {
 }
 
 /// A line for each task: name, unit, units, and for each hand its name and median nanoseconds.
-fn times() {
-    for mut task in tasks() {
+fn times(module: &str) {
+    for mut task in tasks(module) {
         let times = medians(&mut task);
         let hands = task.hands.iter().zip(&times);
         let hands: Vec<String> = hands
@@ -77,8 +87,9 @@ fn counted_work(work: &mut Work) {
 }
 
 /// Does the work of each task and counted hand, once before it is counted, and says whose it was.
-fn counted() {
-    for mut task in tasks() {
+fn counted(module: &str) {
+    want(Want::Unchecked);
+    for mut task in tasks(module) {
         for (hand, work) in task
             .hands
             .iter_mut()
@@ -110,19 +121,20 @@ fn main() {
         .as_slice()
     {
         [] => table(),
-        ["times"] => times(),
+        ["times"] => times(ALL),
+        ["times", module] => times(module),
         ["counts"] => counts::print(),
         // Making a task compares the hands.
-        ["agree"] => println!("{} tasks, and all hands agree", tasks().count()),
-        ["counted"] => {
-            want(Want::Unchecked);
-            counted();
-        }
+        ["agree"] => println!("{} tasks, and all hands agree", tasks(ALL).count()),
+        ["counted"] => counted(ALL),
+        ["counted", module] => counted(module),
         [name, hand, count] => {
             want(Want::Only(name.to_string()));
             repeat(name, hand, count.parse().expect("COUNT is a number"))
                 .expect("no such task or hand");
         }
-        _ => eprintln!("usage: bench [times | counted | counts | agree | TASK HAND COUNT]"),
+        _ => eprintln!(
+            "usage: bench [times [MODULE] | counted [MODULE] | counts | agree | TASK HAND COUNT]"
+        ),
     }
 }

@@ -57,6 +57,44 @@ mod raw {
             numbers: *const [u64; NUMBERS],
             answer: *mut Handed,
         ) -> u8;
+        pub fn fadurinko_record_word(
+            text: *const u8,
+            text_len: usize,
+            record: *const u8,
+            record_len: usize,
+            room: *mut u8,
+            room_len: usize,
+            answer: *mut Handed,
+        ) -> u8;
+        pub fn fadurinko_record_word_opened(
+            frames: *const [u8; FRAMES],
+            numbers: *const [u64; NUMBERS],
+            record: *const u8,
+            record_len: usize,
+            tree: *mut [u8; LONGEST],
+            plan: *mut [u32; LONGEST],
+            room: *mut u8,
+            room_len: usize,
+            answer: *mut Handed,
+        ) -> u8;
+        pub fn fadurinko_record_tree_opened(
+            frames: *const [u8; FRAMES],
+            numbers: *const [u64; NUMBERS],
+            record: *const u8,
+            record_len: usize,
+            room: *mut u8,
+            room_len: usize,
+            answer: *mut Handed,
+        ) -> u8;
+        pub fn fadurinko_tree_record_opened(
+            frames: *const [u8; FRAMES],
+            numbers: *const [u64; NUMBERS],
+            tree: *const u8,
+            tree_len: usize,
+            room: *mut u8,
+            room_len: usize,
+            answer: *mut Handed,
+        ) -> u8;
     }
 }
 
@@ -126,6 +164,77 @@ pub fn word(text: &[u8], tree: &[u8], room: &mut [u8]) -> Result<(usize, usize),
         )
     })
     .map(word_found)
+}
+
+/// Length and terms of the word of a record.
+pub fn record_word(text: &[u8], record: &[u8], room: &mut [u8]) -> Result<(usize, usize), No> {
+    answered(|answer| unsafe {
+        raw::fadurinko_record_word(
+            text.as_ptr(),
+            text.len(),
+            record.as_ptr(),
+            record.len(),
+            room.as_mut_ptr(),
+            room.len(),
+            answer,
+        )
+    })
+    .map(word_found)
+}
+
+/// Length and terms of the word of a record, by an opened table.
+pub fn record_word_opened(
+    table: &Opened,
+    record: &[u8],
+    (tree, plan): (&mut [u8; LONGEST], &mut [u32; LONGEST]),
+    room: &mut [u8],
+) -> Result<(usize, usize), No> {
+    answered(|answer| unsafe {
+        raw::fadurinko_record_word_opened(
+            &*table.frames,
+            &*table.numbers,
+            record.as_ptr(),
+            record.len(),
+            tree,
+            plan,
+            room.as_mut_ptr(),
+            room.len(),
+            answer,
+        )
+    })
+    .map(word_found)
+}
+
+/// The length of the tree of a record.
+pub fn record_tree_opened(table: &Opened, record: &[u8], room: &mut [u8]) -> Result<usize, No> {
+    answered(|answer| unsafe {
+        raw::fadurinko_record_tree_opened(
+            &*table.frames,
+            &*table.numbers,
+            record.as_ptr(),
+            record.len(),
+            room.as_mut_ptr(),
+            room.len(),
+            answer,
+        )
+    })
+    .map(|[_, length, ..]| length)
+}
+
+/// The length of the record of a tree.
+pub fn tree_record_opened(table: &Opened, tree: &[u8], room: &mut [u8]) -> Result<usize, No> {
+    answered(|answer| unsafe {
+        raw::fadurinko_tree_record_opened(
+            &*table.frames,
+            &*table.numbers,
+            tree.as_ptr(),
+            tree.len(),
+            room.as_mut_ptr(),
+            room.len(),
+            answer,
+        )
+    })
+    .map(|[_, length, ..]| length)
 }
 
 pub fn judge(text: &[u8]) -> Result<(), No> {

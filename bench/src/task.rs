@@ -2,6 +2,8 @@
 //!
 //! `proved` is the proved call; `plain` is plain Rust, the second program's or close to it; `tuned`
 //! is the same method in tuned safe Rust; `best` is the fastest safe Rust found, by another method.
+//! `second` is the second program. For scale: `memcpy` and `bytes` copy the outputs, at once and one
+//! byte after the other, and `spelled` is the proved word call on trees that are spelled out already.
 
 use std::hint::black_box;
 use std::sync::OnceLock;

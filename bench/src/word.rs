@@ -2,15 +2,17 @@
 
 use crate::best;
 use crate::grow;
+use crate::hands::{self, kept, plan, Answer, Pieces};
 use crate::opened::Opened;
 use crate::plain;
-use crate::proved::{self, LONGEST};
-use crate::task::{checking, wanted, Task, Work};
+use crate::proved;
+use crate::task::{wanted, Task};
 use crate::tuned;
 use fadurinko_second::refusal::{put_into_room, Refusal};
 use fadurinko_second::table::{self, Table};
 use fadurinko_second::walk::{self, Walker};
-use std::hint::black_box;
+
+type Hand = hands::Hand<Given>;
 
 /// A tree, and the text of the table that gives it a word.
 struct Given {
@@ -24,11 +26,6 @@ struct Case {
     table: &'static Opened,
     second: &'static Table,
     longest: usize,
-}
-
-/// A benchmark's tables and trees live as long as the program.
-fn kept<T>(value: T) -> &'static T {
-    Box::leak(Box::new(value))
 }
 
 fn length(given: &Given) -> usize {
@@ -53,64 +50,14 @@ fn case(given: Vec<Given>) -> Case {
 }
 
 /// A room with some bytes to spare, as a caller who doesn't know the length lends it.
-fn room(case: &Case) -> Vec<u8> {
-    vec![0; case.longest + 64]
+fn room(case: &Case) -> usize {
+    case.longest + 64
 }
-
-fn plan() -> Box<[u32; LONGEST]> {
-    Box::new([0; LONGEST])
-}
-
-type Answer = Result<(usize, usize), (u8, usize)>;
 
 fn second_told(answer: Result<walk::Found, Refusal>) -> Answer {
     answer
         .map(|found| (found.length, found.terms))
         .map_err(|no| (no.number, no.place))
-}
-
-/// One hand: the answer on a tree, with the word in a room that it keeps.
-struct Hand {
-    name: &'static str,
-    find: Box<dyn FnMut(&Given, &mut [u8]) -> Answer>,
-    room: Vec<u8>,
-}
-
-impl Hand {
-    fn new(
-        name: &'static str,
-        case: &Case,
-        find: impl FnMut(&Given, &mut [u8]) -> Answer + 'static,
-    ) -> Hand {
-        Hand {
-            name,
-            find: Box::new(find),
-            room: room(case),
-        }
-    }
-
-    /// The answer and the word's bytes.
-    fn answer(&mut self, given: &Given) -> (Answer, Vec<u8>) {
-        let answer = (self.find)(given, &mut self.room);
-        let length = answer.map_or(0, |(length, _)| length);
-        (answer, self.room[..length].to_vec())
-    }
-
-    fn work(self, all: &'static [Given]) -> (&'static str, Work) {
-        let Hand {
-            name,
-            mut find,
-            mut room,
-        } = self;
-        (
-            name,
-            Box::new(move || {
-                for given in all {
-                    black_box(find(black_box(given), &mut room)).ok();
-                }
-            }),
-        )
-    }
 }
 
 /// The hands on an opened table.
@@ -120,19 +67,19 @@ fn opened_hands(case: &Case) -> Vec<Hand> {
     let (mut out, mut second_out) = (Vec::new(), Vec::new());
     let walker = Walker::new(case.second);
     vec![
-        Hand::new("proved", case, move |given, room| {
+        Hand::new("proved", room(case), move |given, room| {
             proved::find(table, &given.tree, &mut one, room)
         }),
-        Hand::new("plain", case, move |given, room| {
+        Hand::new("plain", room(case), move |given, room| {
             plain::word::find(table, &given.tree, &mut out, room)
         }),
-        Hand::new("tuned", case, move |given, room| {
+        Hand::new("tuned", room(case), move |given, room| {
             tuned::word::find(table, &given.tree, &mut other, room)
         }),
-        Hand::new("best", case, move |given, room| {
+        Hand::new("best", room(case), move |given, room| {
             best::word::find(table, &given.tree, &mut third, room)
         }),
-        Hand::new("second", case, move |given, room| {
+        Hand::new("second", room(case), move |given, room| {
             let found = walker.word(&given.tree, &mut second_out);
             second_told(found.and_then(|found| put_into_room(&second_out, room).map(|()| found)))
         }),
@@ -145,61 +92,25 @@ fn text_hands(case: &Case) -> Vec<Hand> {
     let (mut tuned_table, mut one) = (Opened::blank(), plan());
     let (mut best_table, mut other) = (Opened::blank(), plan());
     vec![
-        Hand::new("proved", case, move |given, room| {
+        Hand::new("proved", room(case), move |given, room| {
             proved::word(given.text, &given.tree, room)
         }),
-        Hand::new("plain", case, move |given, room| {
+        Hand::new("plain", room(case), move |given, room| {
             plain::open::open(given.text, &mut plain_table)?;
             plain::word::find(&plain_table, &given.tree, &mut out, room)
         }),
-        Hand::new("tuned", case, move |given, room| {
+        Hand::new("tuned", room(case), move |given, room| {
             tuned::open::open(given.text, &mut tuned_table)?;
             tuned::word::find(&tuned_table, &given.tree, &mut one, room)
         }),
-        Hand::new("best", case, move |given, room| {
+        Hand::new("best", room(case), move |given, room| {
             tuned::open::open(given.text, &mut best_table)?;
             best::word::find(&best_table, &given.tree, &mut other, room)
         }),
-        Hand::new("second", case, move |given, room| {
+        Hand::new("second", room(case), move |given, room| {
             second_told(walk::word(given.text, &given.tree, room))
         }),
     ]
-}
-
-/// Copying the output, for scale.
-fn copying(case: &Case) -> (&'static str, Work) {
-    let mut room = room(case);
-    let mut word_of = |given: &Given| {
-        let found = proved::word(given.text, &given.tree, &mut room);
-        let (length, _) = found.expect("every tree has a word");
-        room[..length].to_vec()
-    };
-    let words: Vec<Vec<u8>> = case.given.iter().map(&mut word_of).collect();
-    (
-        "memcpy",
-        Box::new(move || {
-            words.iter().for_each(|word| {
-                black_box(&mut room)[..word.len()].copy_from_slice(black_box(word))
-            })
-        }),
-    )
-}
-
-/// Every hand gives the same answer and the same bytes on each tree.
-fn agree(name: &str, hands: &mut [Hand], all: &[Given]) {
-    let (first, others) = hands.split_first_mut().expect("there is a proved hand");
-    for given in all {
-        let answer = first.answer(given);
-        assert!(answer.0.is_ok());
-        for other in others.iter_mut() {
-            assert!(
-                other.answer(given) == answer,
-                "{name}: {} and {} differ",
-                first.name,
-                other.name
-            );
-        }
-    }
 }
 
 fn task(name: &str, given: impl Fn() -> Vec<Given>, hands: fn(&Case) -> Vec<Hand>) -> Option<Task> {
@@ -207,22 +118,13 @@ fn task(name: &str, given: impl Fn() -> Vec<Given>, hands: fn(&Case) -> Vec<Hand
         return None;
     }
     let case = case(given());
-    let mut hands = hands(&case);
-    if checking() {
-        agree(name, &mut hands, case.given);
-    }
-    let units = case.given.iter().map(|given| given.tree.len()).sum();
-    let mut works: Vec<(&'static str, Work)> = hands
-        .into_iter()
-        .map(|hand| hand.work(case.given))
-        .collect();
-    works.push(copying(&case));
-    Some(Task {
-        name: name.to_string(),
+    let pieces = Pieces {
+        all: case.given,
         unit: "symbol",
-        units,
-        hands: works,
-    })
+        units: case.given.iter().map(|given| given.tree.len()).sum(),
+        refused: None,
+    };
+    Some(hands::task(name, hands(&case), pieces))
 }
 
 /// Trees under one table, whose words have up to `longest` letters.

@@ -1,4 +1,5 @@
 //! The same work in plain safe Rust, written straightforwardly.
 
 pub mod open;
+pub mod record;
 pub mod word;

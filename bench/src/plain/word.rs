@@ -6,7 +6,7 @@ use fadurinko_second::limits::{MAX_DEPTH, MAX_TREE};
 use fadurinko_second::refusal::put_into_room;
 
 /// The number of no and the place.
-type Refused = (u8, usize);
+pub type Refused = (u8, usize);
 
 /// A rule of the opened table: where its bytes stand and how many children it has.
 struct Rule {
@@ -32,7 +32,7 @@ fn stretch(table: &Opened, at: usize) -> &[u8] {
     &table.frames[at + 1..at + 1 + length]
 }
 
-fn check_shape(table: &Opened, tree: &[u8]) -> Result<(), Refused> {
+pub fn check_shape(table: &Opened, tree: &[u8]) -> Result<(), Refused> {
     if tree.is_empty() || tree.len() > MAX_TREE {
         return Err((6, 0));
     }

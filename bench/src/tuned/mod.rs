@@ -5,4 +5,5 @@ pub mod compare;
 pub mod form;
 pub mod judge;
 pub mod open;
+pub mod record;
 pub mod word;
