@@ -1,13 +1,12 @@
 -- What is told of the record of tree bytes, and what the room holds after it. Assumes nothing.
 use mathlib.Core.Path.{_≡_, refl, sym, ap, subst⁻¹, _∙_}
-use mathlib.Core.List.{List, _++_}
+use mathlib.Core.List.{List}
 use mathlib.Core.Logic.{_⊎_}
 use Prim.Native.Nat.{ℕ, _-_, _<_, _≤_}
 use native.Mathlib.Omega.{arith}
-use borrow.Author.Tests.{lt-ltb, le-ltb}
-use lib.ListN.{length, drop, length-map}
+use lib.ListN.{length, length-map}
 use Rattle.words.specs.declared.No.{No}
-use Rattle.words.specs.Reply.{Reply, given, refusal, noAt, refused, _then_}
+use Rattle.words.specs.Reply.{Reply, given, refusal, refused, _then_}
 use Rattle.words.proofs.Replies.{given-refused, refusal-injective, then-given}
 use Rattle.machine.specs.Machine.{Table}
 use Rattle.trees.specs.Shape.{readTree, treeMost}
@@ -22,7 +21,6 @@ use Rattle.records.proofs.Loop.{bytes-written}
 use Rattle.promises.specs.Room.{into}
 use Rattle.promises.specs.Records.{recordOfTree}
 use Rattle.spelling.specs.declared.Spelled.{Spelled}
-use Rattle.spelling.specs.declared.Spelled.the-variants as spelled
 use Rattle.spelling.specs.Spells.{Spells}
 use Rattle.tree_record_call.specs.ImageTold.{imageTold, allButLast, streamOf}
 use Rattle.tree_record_call.proofs.Images.{front-long}
@@ -70,30 +68,11 @@ module _ (M : Table) (bs : List ℕ) where
 
 -- ---- the room
 
--- A refusal leaves it as it was.
-pub refused-spells : (R : List ℕ) {o : Reply (List ℕ)} {x : No} → o ≡ refusal x → Spells (into (length R) o) R R (spelled.Refused x)
-refused-spells R {o} {x} e = rw e (record { answer = refl; room = refl })
-
 -- What is told of an output is told of an answer that gives it.
 pub given-spells : (R R′ : List ℕ) {o : Reply (List ℕ)} {out : List ℕ} {r : Spelled} → o ≡ given out → Spells (into (length R) (given out)) R R′ r
     → Spells (into (length R) o) R R′ r
 given-spells R R′ {r = r} e h = subst⁻¹ (λ (z : Reply (List ℕ)). Spells (into (length R) z) R R′ r) e h
 
 -- The stream is as long as all but the last byte.
-stream-long : (a : ℕ) (bs : List ℕ) → length (streamOf a bs) ≡ length bs - 1
+pub stream-long : (a : ℕ) (bs : List ℕ) → length (streamOf a bs) ≡ length bs - 1
 stream-long a bs = length-map (allButLast bs) (unspell a) ∙ front-long bs
-
--- A room that is too short.
-pub short-spells : (R : List ℕ) (a : ℕ) (bs : List ℕ) → length R < length bs - 1
-    → Spells (into (length R) (given (streamOf a bs))) R R (spelled.Refused (noAt 12 (length bs - 1)))
-short-spells R a bs h =
-    let l = stream-long a bs in
-    rw (lt-ltb (length R) (length (streamOf a bs)) (omega arith), l) (record { answer = refl; room = refl })
-
--- A room that is long enough.
-pub long-spells : (R R′ : List ℕ) (a : ℕ) (bs : List ℕ) → length bs - 1 ≤ length R → R′ ≡ streamOf a bs ++ drop (length (allButLast bs)) R
-    → Spells (into (length R) (given (streamOf a bs))) R R′ (spelled.Bytes (length bs - 1))
-long-spells R R′ a bs h e =
-    let l = stream-long a bs in
-    rw (le-ltb (length R) (length (streamOf a bs)) (omega arith))
-    (record { answer = ap given (sym l); room = e ∙ ap (λ (n : ℕ). streamOf a bs ++ drop n R) (sym (length-map (allButLast bs) (unspell a))) })

@@ -2,7 +2,8 @@
 use mathlib.Core.Path.{sym, ap, _∙_}
 use borrow.Author.Needs.{needs}
 use Rattle.record_symbols.specs.LastTold.{lastTold}
-use Rattle.tree_record_call.proofs.Answers.{symbols-refused, refused-spells}
+use Rattle.spelling.proofs.Answered.{spells-refused}
+use Rattle.tree_record_call.proofs.Answers.{symbols-refused}
 use Rattle.tree_record_call.proofs.record.Statement.{statement}
 use Rattle.tree_record_call.proofs.record.Tie as tie
 
@@ -11,7 +12,7 @@ returns c =
     let symbols = c .before .before .before in
     let a = symbols .before .before .before .before .before .args in
     λ M o.
-    refused-spells (a .room .now) (symbols-refused M (a .tree .now) (sym (ap lastTold (c .before .no .given .1)) ∙ symbols .last-symbol .ensures M o))
+    spells-refused (a .room .now) (symbols-refused M (a .tree .now) (sym (ap lastTold (c .before .no .given .1)) ∙ symbols .last-symbol .ensures M o))
 
 returns-2 : tie.Need-returns-2
 returns-2 c =

@@ -5,7 +5,8 @@ use native.Mathlib.Omega.{arith}
 use borrow.Author.Needs.{needs}
 use borrow.Author.Tests.{ltb-true}
 use Rattle.stream_check.specs.StreamTold.{streamTold}
-use Rattle.tree_record_call.proofs.Answers.{size-refused, image-refused, image-given, refused-spells, given-spells}
+use Rattle.spelling.proofs.Answered.{spells-refused}
+use Rattle.tree_record_call.proofs.Answers.{size-refused, image-refused, image-given, given-spells}
 use Rattle.tree_record_call.proofs.record_under.Statement.{statement}
 use Rattle.tree_record_call.proofs.record_under.Tie as tie
 
@@ -13,7 +14,7 @@ returns : tie.Need-returns
 returns c =
     let a = c .before .before .before .before .before .args in
     λ M o e.
-    refused-spells (a .room .now)
+    spells-refused (a .room .now)
     (size-refused M (a .tree .now) (a .last) e (⊎-elim (λ w. inl (w .taken)) (λ w. inr (ltb-true _ _ (w .1 .taken))) (c .if1 .came)))
 
 returns-2 : tie.Need-returns-2
@@ -21,7 +22,7 @@ returns-2 c =
     let checked = c .before .before .before in
     let a = checked .before .before .before .before .before .before .before .args in
     λ M o e.
-    refused-spells (a .room .now)
+    spells-refused (a .room .now)
     (image-refused M (a .tree .now) (a .last) e (sym (ap streamTold (c .before .no .given .1)) ∙ checked .check .ensures M o e))
 
 returns-3 : tie.Need-returns-3
