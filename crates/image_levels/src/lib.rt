@@ -5,7 +5,7 @@ ghost use Prim.Native.Nat.{ℕ, _+_, _-_, _<_, _≤_};
 ghost use lib.ListN.{length};
 ghost use Rattle.words.specs.Reply.{mapped};
 ghost use Rattle.trees.specs.Preorder.{preorder};
-ghost use Rattle.trees.specs.Shape.{readTree, treeMost};
+ghost use Rattle.trees.specs.Shape.{readTree, treeMost, depthMost};
 ghost use Rattle.records.specs.Records.{Element, Labels, bytesOf, image, spell};
 ghost use Rattle.records.specs.Symbols.{RecordSymbols};
 ghost use Rattle.image_levels.specs.LevelsTold.{levelsTold};
@@ -25,7 +25,7 @@ fn left_after(byte: u8, leaf: u8, waits: u8, below: u8) -> u8
 
 // How many places of the stack are taken behind a byte: one fewer if it is the leaf, else one more.
 fn top_after(byte: u8, leaf: u8, top: usize) -> usize
-    requires { ⌜ (0 < top) × (top < 65) ⌝ }
+    requires { ⌜ (0 < top) × (top ≤ depthMost) ⌝ }
     ensures { λ r. ⌜ (byte ≡ leaf → r ≡ top - 1) × ((byte ≡ leaf → ⊥) → r ≡ top + 1) ⌝ }
 {
     if byte == leaf { top - 1 } else { top + 1 }
@@ -39,9 +39,9 @@ pub fn levels(bytes: &[u8], leaf: u8) -> ImageLevels
         → levelsTold k ≡ mapped (λ t. tt) (readTree ar (preorder (image a r)))) ⌝ }
 {
     // How many levels are left for what is next, and on the stack for what waits behind it; its lowest place, 0, for what is behind all.
-    let mut stack = [0u8; 65];
+    let mut stack = [0u8; layout::LEVELS + 1];
     let mut top: usize = 1;
-    let mut left: u8 = 64;
+    let mut left = layout::LEVELS as u8;
     let mut i = 0;
     while i < bytes.len() {
         if left == 0 {

@@ -28,7 +28,7 @@ array-write-stack c = omega (arith, climbing-free (c .before .before .loop .inv)
 top-after-requires : tie.Need-top-after-requires Inv-loop μ-loop
 top-after-requires c κs =
     let inv = c .before .before .before .before .before .loop .inv in
-    (climbing-some inv (omega arith), climbing-free inv (omega arith))
+    (climbing-some inv (omega arith), omega (arith, climbing-free inv (omega arith)))
 
 loop-again : tie.Need-loop-again Inv-loop μ-loop
 loop-again c =
@@ -50,6 +50,7 @@ levels-spec =
     (tie.spec
     Inv-loop
     μ-loop
+    (λ c. search needs)
     (λ c. climbing-first _ _ _ (search needs) (search needs))
     sub-waits
     array-read-waits
