@@ -71,7 +71,7 @@ fn answer_mode(usage: &[u8]) {
 
 fn main() {
     let usage =
-        b"usage: record MODE TABLEFILE: MODE word, tree or back; records (back: trees) in hexadecimal lines; answers word, tree, record, no NUMBER PLACE\n";
+        b"usage: record MODE TABLEFILE: MODE word, tree or back; records (back: trees) in hexadecimal; answers word, tree, record, no NUMBER PLACE, not hex\n";
     if console::started_with(2, usage) {
         answer_mode(usage);
     }
