@@ -32,6 +32,7 @@ module _ {I : Type 0} (X Y : I → Option Word) (e : (i : I) → Y i ≡ X i) wh
 
 -- The image of a member is a member of the list of images.
 mem_image : {A B : Type 0} {x : A} (f : A → B) (xs : List A) → Memᴰ x xs → Memᴰ (f x) (map f xs)
+mem_image f [] m = elim m [ ]
 mem_image f (y ∷ xs) (Memᴰ.head e) = Memᴰ.head (ap f e)
 mem_image f (y ∷ xs) (Memᴰ.tail m) = Memᴰ.tail (mem_image f xs m)
 

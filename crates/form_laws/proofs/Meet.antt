@@ -85,5 +85,8 @@ module _ (same : Test) where
   meet_known seen [] h = tt
   meet_known seen (q ∷ qs) h =
       known_or seen q
-      (λ l. rw (meet_old seen q qs l) (meet_keeps seen qs q l, meet_known seen qs h.1))
-      (λ l. rw (meet_new seen q qs l) (meet_keeps (seen ++ q ∷ []) qs q (known_last same seen q h.0), meet_known (seen ++ q ∷ []) qs h.1))
+      (λ l.
+      subst (λ (m : List ℕ). All (Known same m) (q ∷ qs)) (sym (meet_old seen q qs l)) (meet_keeps seen qs q l, meet_known seen qs h.1))
+      (λ l.
+      subst (λ (m : List ℕ). All (Known same m) (q ∷ qs)) (sym (meet_new seen q qs l))
+      (meet_keeps (seen ++ q ∷ []) qs q (known_last same seen q h.0), meet_known (seen ++ q ∷ []) qs h.1))

@@ -1,5 +1,4 @@
-// A reader keeps a table text and the place of its next line together. The borrow checker covers no function over
-// such a struct, so the three here are thin and proved by hand; `lines::take_line` does the work.
+// A reader keeps a table text and the place of its next line together; `lines::take_line` does the work.
 ghost use Rattle.std.specs.Prelude.{◌≡◌, ◌*◌, ◌≤◌, length, drop};
 ghost use Rattle.text.specs.Limits.{text_most};
 ghost use Rattle.lines.specs.Scan.{scan, LineTaken};

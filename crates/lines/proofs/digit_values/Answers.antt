@@ -1,0 +1,10 @@
+-- `digit_values` meets its contract: antt computes the test of each entry. Assumes nothing.
+use mathlib.Core.Path.{refl}
+use Rattle.text.specs.Lines.{digit}
+use Rattle.lines.proofs.Values.{right, right_valued}
+use Rattle.lines.proofs.digit_values.Goals as goal
+
+pub returns : goal.returns
+unfolding right digit
+returns c =
+    right_valued _ refl tt

@@ -1,0 +1,9 @@
+-- `spot_of` meets its contract: the place is read off what is kept by the rule's number.
+use mathlib.Core.Path.{ap}
+use Prim.Native.Nat.{ℕ, ◌%◌}
+use Rattle.rule_leaves.proofs.Listing.{spot_listed}
+use Rattle.rule_leaves.proofs.rule.spot_of.Goals as goal
+
+pub returns-clause-by_index : goal.returns-clause-by_index
+returns-clause-by_index c =
+    λ F M r o e. spot_listed o c.args.i r e _ (ap (λ (n : ℕ). n % 16384) c.number.ensures)

@@ -1,0 +1,8 @@
+-- `symbol_of` meets its contract: it is read off what is kept by the rule's number.
+use native.Mathlib.Omega.{arith}
+use Rattle.rule_leaves.proofs.Numbered.{listed_symbol}
+use Rattle.rule_leaves.proofs.rule.symbol_of.Goals as goal
+
+pub returns-clause-row_meant : goal.returns-clause-row_meant
+returns-clause-row_meant c =
+    λ F M r o e. omega (arith, c.number.ensures, listed_symbol o c.args.i r e)
