@@ -14,7 +14,7 @@ use summary::{kept, stuck_by};
 mod rules;
 
 // The least place that does not pass a check, if any.
-#[derive(Drop)]
+#[derive(Clone, Copy)]
 pub enum Fault {
     At(usize),
     Nowhere,

@@ -15,7 +15,7 @@ use same_symbols::Parted;
 use words::No;
 
 // Same, different, or the refusal with the table that it is about: 1, 2, or 0 for number 19.
-#[derive(Drop)]
+#[derive(Clone, Copy)]
 pub enum Compared {
     Same,
     Different,

@@ -6,7 +6,7 @@ ghost use Rattle.text.specs.Fields as text;
 ghost use Rattle.fields.specs.Read.{NumberRead, WordRead, one_child, ChildRead, KidsRead, fault_of, child_fault_of, kids_fault_of, FirstAfter, RestAfter};
 
 // A field's value (of a word, its length) and where the next field stands; or a number of no.
-#[derive(Drop)]
+#[derive(Clone, Copy)]
 pub enum Field {
     Got { value: usize, next: usize },
     Fault { number: u8 },
@@ -14,7 +14,7 @@ pub enum Field {
 
 // A child's state, where the next field stands, the letters of the word behind it; or a number of
 // no.
-#[derive(Drop)]
+#[derive(Clone, Copy)]
 pub enum OneChild {
     Got {
         state: usize,
@@ -28,7 +28,7 @@ pub enum OneChild {
 
 // What the children of a rule come to: where the next field stands, the letters of the words behind
 // them, their states and their count in one number; or a number of no.
-#[derive(Drop)]
+#[derive(Clone, Copy)]
 pub enum Kids {
     Got {
         next: usize,

@@ -9,7 +9,7 @@ use verdict::Judgement;
 use words::No;
 
 // The form's length, or the refusal.
-#[derive(Drop)]
+#[derive(Clone, Copy)]
 pub enum Formed {
     Form(usize),
     Refused(No),

@@ -9,7 +9,7 @@ use fields::Field;
 
 // What is known of a table's head while its text is read: its counts, its initial state, where the
 // initial words and the first rule's frame stand.
-#[derive(Drop)]
+#[derive(Clone, Copy)]
 pub struct Head {
     pub symbols: usize,
     pub states: usize,
@@ -22,7 +22,7 @@ pub struct Head {
 
 // How far the reader is: 0 while it reads symbols, 1 rules, 2 behind the end frame; the table's
 // numbers so far; the least place in the order of rules for the next one; how many bytes are used.
-#[derive(Drop)]
+#[derive(Clone, Copy)]
 pub struct Stage {
     pub phase: usize,
     pub head: Head,
@@ -31,7 +31,7 @@ pub struct Stage {
 }
 
 // The stage behind a frame, or the number of no.
-#[derive(Drop)]
+#[derive(Clone, Copy)]
 pub enum Next {
     Ready(Stage),
     Wrong { number: u8 },

@@ -8,7 +8,7 @@ ghost use Rattle.records.specs.Symbols.{RecordSymbols};
 ghost use Rattle.image_levels.specs.LevelsTold.{levels_told};
 
 // That the image has at most 64 levels, or its first position that is deeper.
-#[derive(Drop)]
+#[derive(Clone, Copy)]
 pub enum ImageLevels {
     Fit,
     Deeper(usize),

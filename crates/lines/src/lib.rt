@@ -4,7 +4,7 @@ ghost use Rattle.text.specs.Limits.{text_most};
 ghost use Rattle.lines.specs.Scan.{scan, Valued, EndedAt, LineTaken};
 
 // A line's number of bytes and where the next line starts; or a line that is no bytes.
-#[derive(Drop)]
+#[derive(Clone, Copy)]
 pub enum Line {
     Whole { bytes: usize, next: usize },
     Bad,

@@ -9,7 +9,7 @@ ghost use Rattle.walk.specs.Plan.{Names};
 ghost use Rattle.measure.specs.Measures.{MeasureOf, Few, Measurable};
 
 // A tree's letters; or that the bytes are no tree with a word.
-#[derive(Drop)]
+#[derive(Clone, Copy)]
 pub enum TreeMeasure {
     Counted { letters: usize },
     Other,

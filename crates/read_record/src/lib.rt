@@ -11,7 +11,7 @@ use stream_check::StreamCheck;
 use words::No;
 
 // The last symbol of the list under which a record was read, or the refusal.
-#[derive(Drop)]
+#[derive(Clone, Copy)]
 pub enum Reading {
     Record(u8),
     Refused(No),

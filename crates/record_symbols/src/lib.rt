@@ -8,7 +8,7 @@ ghost use Rattle.record_symbols.specs.LastTold.{last_told};
 use words::No;
 
 // The last symbol, which means "absent", or the refusal.
-#[derive(Drop)]
+#[derive(Clone, Copy)]
 pub enum LastSymbol {
     Last(u8),
     Refused(No),

@@ -10,7 +10,7 @@ use fields::{Field, Kids};
 use head_frames::{Next, Stage};
 
 // What is kept for a rule's state and symbol, and where the next field stands; or a number of no.
-#[derive(Drop)]
+#[derive(Clone, Copy)]
 pub enum Entry {
     Rule { next: usize, entry: u64 },
     Fault { number: u8 },

@@ -10,7 +10,7 @@ use crate::kept::kids_in;
 use crate::rule::Rules;
 
 // Where a rule's first word stands, and how many children the rule has.
-#[derive(Drop)]
+#[derive(Clone, Copy)]
 pub struct Laid {
     pub spot: usize,
     pub kids: usize,

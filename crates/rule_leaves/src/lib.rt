@@ -15,7 +15,7 @@ mod kids;
 mod rule;
 
 // The rule of a state and a symbol: its number, or that there is none.
-#[derive(Drop)]
+#[derive(Clone, Copy)]
 pub enum RuleOf {
     Found(usize),
     Missing,

@@ -8,7 +8,7 @@ ghost use Rattle.layout.specs.Leaves.{RowAt, Encodes, RulesOf, Spot, RowMeant};
 use layout::{number, states};
 
 // The numbers of a state's rules: from the first to the one behind the last.
-#[derive(Drop)]
+#[derive(Clone, Copy)]
 pub struct Rules {
     pub from: usize,
     pub to: usize,

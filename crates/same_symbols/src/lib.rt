@@ -8,7 +8,7 @@ ghost use Rattle.layout.specs.Layout.{Opened};
 ghost use Rattle.same_symbols.specs.Parting.{AlikeFor, Lesser, parting_of};
 
 // The first index where two symbol lists part: another arity, or the end of the shorter.
-#[derive(Drop)]
+#[derive(Clone, Copy)]
 pub enum Parted {
     At(usize),
     Nowhere,

@@ -9,7 +9,7 @@ ghost use Rattle.shape.specs.Shaped.{Shaped, Inside, Checked};
 use words::No;
 
 // The place behind a tree, or the refusal.
-#[derive(Drop)]
+#[derive(Clone, Copy)]
 pub enum Shape {
     Ends(usize),
     Refused(No),

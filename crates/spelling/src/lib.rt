@@ -5,7 +5,7 @@ ghost use Rattle.records.specs.Records.{replaced, spell};
 use words::No;
 
 // How many bytes were written to the front of the room, or the refusal.
-#[derive(Drop)]
+#[derive(Clone, Copy)]
 pub enum Spelled {
     Bytes(usize),
     Refused(No),

@@ -8,14 +8,14 @@ use stream_count::Count;
 use words::No;
 
 // How many elements are open, or the refusal.
-#[derive(Drop)]
+#[derive(Clone, Copy)]
 pub enum OpenElements {
     Open(usize),
     Refused(No),
 }
 
 // That a stream is a record's, or the refusal.
-#[derive(Drop)]
+#[derive(Clone, Copy)]
 pub enum StreamCheck {
     Whole,
     Refused(No),

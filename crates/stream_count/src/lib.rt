@@ -5,7 +5,7 @@ ghost use Rattle.records.specs.Counter.{marks, marks_from};
 ghost use Rattle.stream_count.specs.CountTold.{CountTold, Beginning, end_behind, labels_behind};
 
 // How many elements are open, where that is sure.
-#[derive(Drop)]
+#[derive(Clone, Copy)]
 pub enum Count {
     Open(usize),
     Unsure,

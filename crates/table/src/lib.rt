@@ -8,7 +8,7 @@ use table_lines::Decoding;
 use words::No;
 
 // What was lent is an opened table; or the refusal.
-#[derive(Drop)]
+#[derive(Clone, Copy)]
 pub enum Opening {
     Table,
     Refused(No),

@@ -17,7 +17,7 @@ use lines::Line;
 use words::No;
 
 // What the lines of a text come to: the head of its table, or the refusal.
-#[derive(Drop)]
+#[derive(Clone, Copy)]
 pub enum Decoding {
     Table(Head),
     Refused(No),

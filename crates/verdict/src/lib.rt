@@ -11,7 +11,7 @@ use checks::{Fault, place_of_fault};
 use words::No;
 
 // The judgement of a table: earliest, or the first refusal of 13 to 18 at its least place.
-#[derive(Drop)]
+#[derive(Clone, Copy)]
 pub enum Judgement {
     Earliest,
     Late(No),

@@ -10,7 +10,7 @@ ghost use Rattle.walk.specs.Walked.{TreeStands, walked, Onward};
 pub const PLAN_UNIT: usize = 131072;
 
 // The place behind a tree, if each of its positions has a rule; or the first position without one.
-#[derive(Drop)]
+#[derive(Clone, Copy)]
 pub enum Walk {
     Ends(usize),
     Lacks(usize),

@@ -12,14 +12,14 @@ use walk::Walk;
 use words::No;
 
 // A word's length and its number of terms.
-#[derive(Drop)]
+#[derive(Clone, Copy)]
 pub struct Letters {
     pub length: usize,
     pub terms: usize,
 }
 
 // The word's record, or the refusal.
-#[derive(Drop)]
+#[derive(Clone, Copy)]
 pub enum WordAnswer {
     Found(Letters),
     Refused(No),

@@ -1,5 +1,5 @@
 // A no: its number and its place. Every refusal, of a text, of a tree, of a room or of a table, is one.
-#[derive(Drop)]
+#[derive(Clone, Copy)]
 pub struct No {
     pub number: u8,
     pub place: usize,
