@@ -1,5 +1,7 @@
 // The lines of a table text in turn: any bytes come to an end with the frames and the rules of a
 // table, or with one refusal and its place.
+#![tactic(auto)]
+
 ghost use Rattle.std.specs.Prelude.{◌≡◌, List, ℕ, ◌≤◌, length};
 ghost use Rattle.words.specs.Reply.{given, no_at};
 ghost use Rattle.machine.specs.Machine.{Table};
