@@ -1,4 +1,6 @@
 // Opening a table text: any bytes come to an end with an opened table or one refusal and its place.
+#![tactic(auto)]
+
 ghost use Rattle.std.specs.Prelude.{◌≡◌, ◌++◌, ◌+◌, ◌-◌, ◌/◌, ◌≤◌, length, take, drop};
 ghost use Rattle.text.specs.Reading.{read_table};
 ghost use Rattle.layout.specs.Layout.{frames_size, numbers_size};
