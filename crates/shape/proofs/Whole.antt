@@ -6,7 +6,7 @@ use native.Mathlib.Nat.{zero-add}
 use native.Mathlib.Omega.{arith}
 use borrow.Author.Tests.{lt-ltb, le-ltb, eq-eqb, ne_eqb}
 use lib.ListN.{length, drop, length-drop}
-use Rattle.words.specs.Reply.{no_at, Reply, given, refusal, refused, ◌then◌}
+use Rattle.words.specs.Reply.{no_at, Reply, given, refusal, ◌then◌}
 use Rattle.machine.specs.Machine.{Tree}
 use Rattle.trees.specs.Preorder.{preorder}
 use Rattle.trees.specs.Shape.{Read, tree_at, alone, read_tree, depth_most, tree_most}

@@ -1,4 +1,6 @@
 // The shape of tree bytes: whether they are one tree, over the symbols of an opened table.
+#![tactic(auto)]
+
 ghost use Rattle.std.specs.Prelude.{◌≡◌, List, ℕ, ◌≤◌, length, drop};
 ghost use Rattle.machine.specs.Machine.{Table};
 ghost use Rattle.words.specs.Reply.{no_at};

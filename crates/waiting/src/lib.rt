@@ -1,4 +1,6 @@
 // The numbers that wait while a tree is measured: a state, with a unit for each symbol above it.
+#![tactic(auto)]
+
 ghost use Rattle.std.specs.Prelude.{◌≡◌, suc, ◌+◌, ◌*◌, ◌/◌, ◌<◌, ◌≤◌, length};
 ghost use Rattle.words.specs.Told.{Told};
 ghost use Rattle.text.specs.Limits.{states_most};

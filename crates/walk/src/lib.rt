@@ -1,5 +1,7 @@
 // The walk down a tree by an opened table, from each symbol to its children in the states of its
 // rule: where a rule is lacking.
+#![tactic(auto)]
+
 ghost use Rattle.std.specs.Prelude.{◌≡◌, List, ℕ, ◌+◌, ◌≤◌, length};
 ghost use Rattle.machine.specs.Machine.{Tree, Table};
 ghost use Rattle.trees.specs.Preorder.{preorder};
