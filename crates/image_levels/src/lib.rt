@@ -1,4 +1,6 @@
 // The levels of a record's image, counted along its stream: the first position below 64 levels, which is 10's place.
+#![tactic(auto)]
+
 ghost use Rattle.std.specs.Prelude.{◌≡◌, List, map, ℕ, ◌+◌, ◌-◌, ◌<◌, ◌≤◌, length};
 ghost use Rattle.words.specs.Reply.{mapped};
 ghost use Rattle.trees.specs.Preorder.{preorder};

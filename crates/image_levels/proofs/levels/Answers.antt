@@ -1,0 +1,34 @@
+-- `levels` meets its contract. The loop's invariant: the levels on the stack tell of the bytes that are left what is told of the whole.
+-- The measure is how many bytes are left. Assumes nothing.
+use native.Mathlib.Omega.{arith}
+use borrow.Author.Rules.{rules}
+use Rattle.image_levels.proofs.Steps.{climbing_some, climbing_free, climbing_byte}
+use Rattle.image_levels.proofs.Steps.{climbing_deeper, climbing_fit}
+use Rattle.image_levels.proofs.levels.Goals as goal
+use Rattle.image_levels.proofs.levels.Goals.{else-loop-i-test, then-loop-i-test+then-left-eq0}
+
+pub bounds-stack-top : goal.bounds-stack-top
+bounds-stack-top c =
+    omega (arith, climbing_free c.loop-i.invariant (omega arith))
+
+pub bounds-stack-top-in-loop-i : goal.bounds-stack-top-in-loop-i
+bounds-stack-top-in-loop-i c =
+    omega (arith, climbing_free c.loop-i.invariant (omega arith))
+
+pub top_after-top-requires : goal.top_after-top-requires
+top_after-top-requires c =
+    (climbing_some c.loop-i.invariant (omega arith), omega (arith, climbing_free c.loop-i.invariant (omega arith)))
+
+pub loop-i-preserved : goal.loop-i-preserved
+loop-i-preserved c =
+    climbing_byte c.loop-i.invariant c.loop-i-test.true (search rules) c.left_after-left.ensures c.top_after-top.ensures
+
+pub returns-then-left-eq0-2 : goal.returns-then-left-eq0-2
+returns-then-left-eq0-2 c =
+    λ ar a r s h n e l. climbing_deeper c.loop-i.invariant (search rules) ar a r s h n e l c.if-left-eq0-2.true
+
+pub returns : goal.returns
+returns c =
+    λ ar a r s h n e l.
+    climbing_fit c.loop-i.invariant (search rules) ar a r s h n e l c.if-left-eq0-2.false
+    (elim c.loop-i-test.branch [ else-loop-i-test w ↦ w.loop-i-test.false | then-loop-i-test+then-left-eq0 w ↦ absurd (c.if-left-eq0-2.false w.if-left-eq0.true) ])
