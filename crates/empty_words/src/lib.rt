@@ -1,5 +1,7 @@
 // Which states of an opened table have the empty word: those with a rule that writes no letter itself and whose children all have it.
 // Nothing is asked of the lent numbers but how many they are: each contract speaks of every table that they mean.
+#![tactic(auto)]
+
 ghost use Rattle.std.specs.Prelude.{◌≡◌, ℕ, ◌<◌, length, get_or};
 ghost use Rattle.words.specs.Told.{Told};
 ghost use Rattle.machine.specs.Machine.{Rule};

@@ -1,4 +1,6 @@
 // The last symbol of an opened table whose symbol list is one for records; or 20 at the first wrong index.
+#![tactic(auto)]
+
 ghost use Rattle.std.specs.Prelude.{◌≡◌};
 ghost use Rattle.words.specs.Reply.{refused};
 ghost use Rattle.records.specs.Symbols.{last_symbol};

@@ -1,5 +1,7 @@
 // The summary of a rule's words at an end, where the states have summaries: its words and its children's summaries in turn.
 // Nothing is asked of the lent bytes and numbers but how many numbers they are: each contract speaks of every table that they mean.
+#![tactic(auto)]
+
 ghost use Rattle.std.specs.Prelude.{◌≡◌, List, ◌<◌, length};
 ghost use Rattle.words.specs.Word.{Word};
 ghost use Rattle.machine.specs.Machine.{Child, Row, Table};

@@ -1,5 +1,7 @@
 // Where the symbol lists of two opened tables part.
 // Nothing is asked of the lent bytes: each contract speaks of every two tables that they mean.
+#![tactic(auto)]
+
 ghost use Rattle.std.specs.Prelude.{◌≡◌, List, ℕ, ◌≤◌, length};
 ghost use Rattle.machine.specs.Machine.{Table};
 ghost use Rattle.text.specs.Limits.{symbols_most};

@@ -1,4 +1,6 @@
 // Bytes put to the front of a room with one of them replaced by another: a stream as tree bytes, and tree bytes as a stream.
+#![tactic(auto)]
+
 ghost use Rattle.std.specs.Prelude.{◌≡◌, ◌∷◌, ◌++◌, map, suc, ◌<◌, ◌≤◌, length, drop};
 ghost use Rattle.records.specs.Records.{replaced, spell};
 

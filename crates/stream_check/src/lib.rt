@@ -1,5 +1,7 @@
 // A stream looked through from left to right, with a count of open elements and nothing else kept: whether it is a record's, or 21,
 // 22 or 23. A byte below `last` is a label, and `close` closes: ff in a stream; in tree bytes, all but the last, the last symbol.
+#![tactic(auto)]
+
 ghost use Rattle.std.specs.Prelude.{◌≡◌, true, ◌+◌, ◌<◌, ◌≤◌, ltb, length};
 ghost use Rattle.records.specs.Counter.{marks, step#, ending#, marks_from, check_stream};
 ghost use Rattle.stream_check.specs.StreamTold.{marks_told, stream_told};

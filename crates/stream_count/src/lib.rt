@@ -1,5 +1,7 @@
 // A stream counted through without a branch on whether a byte opens or closes, which no processor could foresee. It tells how many
 // elements are open where it is sure: all bytes are labels or closes, and something is open before each but the first.
+#![tactic(auto)]
+
 ghost use Rattle.std.specs.Prelude.{◌≡◌, ◌+◌, ◌<◌, ◌≤◌, ltb, length};
 ghost use Rattle.records.specs.Counter.{marks, marks_from};
 ghost use Rattle.stream_count.specs.CountTold.{CountTold, Beginning, end_behind, labels_behind};

@@ -1,4 +1,6 @@
 // Summaries of sets of words as numbers, seen from a side: whether the empty word is there, and whether there is no letter, one and which, or several.
+#![tactic(auto)]
+
 ghost use Rattle.std.specs.Prelude.{◌≡◌, ◌<◌, get_or};
 ghost use Rattle.end_laws.specs.Ends.{both, join, before, beside, rank_of, rank};
 ghost use Rattle.summary.specs.Codes.{side_of, letters_of, decode};

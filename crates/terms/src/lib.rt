@@ -1,5 +1,7 @@
 // The terms of a word, counted where its letters stand: in pieces of 224 letters, whose letters 20
 // are counted in a byte, so that the compiler compares many letters at once.
+#![tactic(auto)]
+
 ghost use Rattle.std.specs.Prelude.{◌≡◌, [], ◌∷◌, ◌≤◌, length, take};
 ghost use Rattle.words.specs.Word.{spaces, terms};
 

@@ -1,6 +1,5 @@
 -- The states of an opened table by first visit, in lent bytes. Definitions only.
 use Rattle.std.specs.Prelude.{◌≡◌, List, ℕ, get_or}
-use Rattle.machine.specs.Machine.{Table}
 use Rattle.machine.specs.Form.{order}
 use Rattle.layout.specs.Layout.{MeantBy}
 use Rattle.visit_queue.specs.Queue.{by_rep, Listing}

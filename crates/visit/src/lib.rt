@@ -1,5 +1,7 @@
 // The walk over the states of an opened table in the order of first visit: each class of states that is met for the first time gets the next free number.
 // The form walks by classes of states with the same words, the judgement with each state as a class of its own.
+#![tactic(auto)]
+
 ghost use Rattle.std.specs.Prelude.{◌≡◌, ℕ, ◌≤◌, length, get_or};
 ghost use Rattle.text.specs.Limits.{states_most};
 ghost use Rattle.layout.specs.Layout.{MeantBy};

@@ -1,5 +1,7 @@
 // The queue of the walk over the states of an opened table: a state that is met goes behind the list, unless one of its class is there.
 // The states of a rule's children are met from left to right, those of a state's rules rule by rule.
+#![tactic(auto)]
+
 ghost use Rattle.std.specs.Prelude.{[], ◌∷◌, ℕ, ◌<◌, ◌≤◌};
 ghost use Rattle.machine.specs.Machine.{Rule};
 ghost use Rattle.text.specs.Limits.{states_most};

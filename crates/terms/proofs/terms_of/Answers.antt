@@ -1,0 +1,21 @@
+-- `terms_of` meets its contract. The loop's invariant: n is one more than the letters 20 before `at`. Assumes nothing.
+use borrow.Author.Rules.{rules}
+use mathlib.Core.List.{List}
+use Prim.Native.Nat.{ℕ, ◌+◌}
+use native.Mathlib.Omega.{arith}
+use Rattle.terms.proofs.Spaces as law
+use Rattle.terms.proofs.terms_of.Goals as goal
+
+pub loop-at-init : goal.loop-at-init
+loop-at-init c =
+    omega (arith, law.spaces_none)
+
+pub loop-at-preserved : goal.loop-at-preserved
+loop-at-preserved c =
+    let u : List ℕ = c.args.word.now in
+    let e = law.piece u c.loop-at.at 224 c.loop-at.n c.whole.result c.loop-at.invariant.1 c.whole.ensures in
+    (search rules, e, omega (arith, e, law.most u (c.loop-at.at + 224)))
+
+pub returns : goal.returns
+returns c =
+    law.all c.args.word.now c.loop-at.at c.loop-at.n c.last.result c.loop-at.invariant.1 c.last.ensures
