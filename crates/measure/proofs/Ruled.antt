@@ -1,7 +1,7 @@
 -- What is kept for a state and a symbol, if it is not 0, tells a rule that fits the table.
 use mathlib.Core.Path.{◌≡◌, sym, ◌∙◌}
 use mathlib.Core.List.{List, [], ◌∷◌}
-use mathlib.Core.Option.{none, some, none-ne-some}
+use mathlib.Core.Option.{some, none-ne-some}
 use Prim.Native.Nat.{ℕ, ◌<◌, ◌≤◌}
 use native.Mathlib.Omega.{arith}
 use lib.ListN.{length}

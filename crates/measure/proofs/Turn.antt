@@ -1,17 +1,17 @@
 -- The loop's state: what waits on the stack decides the whole and is owed trees by it, and the sum is of what is passed.
 use mathlib.Core.Path.{◌≡◌, sym, subst, ◌∙◌}
-use mathlib.Core.List.{List, [], ◌∷◌, ◌++◌}
-use Prim.Native.Nat.{ℕ, zero, suc, ◌+◌, ◌-◌, ◌*◌, ◌/◌, ◌%◌, ◌<◌, ◌≤◌}
+use mathlib.Core.List.{List, [], ◌∷◌}
+use Prim.Native.Nat.{ℕ, zero, suc, ◌+◌, ◌-◌, ◌*◌, ◌%◌, ◌<◌, ◌≤◌}
 use native.Mathlib.Numerals.{add-one}
 use native.Mathlib.Omega.{arith}
 use lib.ListN.{length, get_or, set, length-set}
-use Rattle.machine.specs.Machine.{Rule, Table}
+use Rattle.machine.specs.Machine.{Table}
 use Rattle.text.specs.Limits.{states_most}
 use Rattle.trees.specs.Shape.{tree_most}
 use Rattle.trees.proofs.Preorder.{preorder_some}
 use Rattle.trees.proofs.Whole.{read_sound}
 use Rattle.layout.specs.Layout.{rule_letters, Opened, MeantBy}
-use Rattle.layout.specs.Leaves.{Encodes, Tells, Kept, state_no}
+use Rattle.layout.specs.Leaves.{Tells, Kept}
 use Rattle.walk.specs.Walked.{Wordless}
 use Rattle.walk.specs.Plan.{Names, Counted}
 use Rattle.waiting.specs.Waiting.{under, waits, ToldBy, TurnMade, Usual}

@@ -1,5 +1,7 @@
 // Measuring a tree: its shape and letters in one loop over its bytes, which leaves the plan for the
 // writing pass; or that the bytes are no tree with a word.
+#![tactic(auto)]
+
 ghost use Rattle.std.specs.Prelude.{List, ℕ};
 ghost use Rattle.words.specs.Told.{Told};
 ghost use Rattle.machine.specs.Machine.{Table};

@@ -4,7 +4,7 @@ use mathlib.Core.List.{List}
 use mathlib.Core.Option.{Option}
 use Prim.Native.Nat.{ℕ, ◌+◌}
 use lib.ListN.{length}
-use Rattle.words.specs.Reply.{refusal, refused}
+use Rattle.words.specs.Reply.{refused}
 use Rattle.machine.specs.Machine.{Tree, Table}
 use Rattle.trees.specs.Preorder.{preorder}
 use Rattle.trees.specs.Shape.{read_tree, depth_most}

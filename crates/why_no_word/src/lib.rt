@@ -1,5 +1,7 @@
 // The answer of the word call, and why there is no word: the refusal of tree bytes that are no tree
 // with a word, and its place.
+#![tactic(auto)]
+
 ghost use Rattle.std.specs.Prelude.{◌≡◌};
 ghost use Rattle.words.specs.Reply.{refused};
 ghost use Rattle.layout.specs.Layout.{Meant};

@@ -1,4 +1,6 @@
 // The writing pass of the word of a tree, by the plan that measuring left.
+#![tactic(auto)]
+
 ghost use Rattle.std.specs.Prelude.{◌≡◌, ℕ, ◌<◌, ◌≤◌, length};
 ghost use Rattle.words.specs.Word.{Word};
 ghost use Rattle.words.specs.Told.{Told};

@@ -1,0 +1,62 @@
+-- `measure` meets its contract. The loop's invariant: what waits decides the whole and is owed trees by it. The measure is how many symbols are left.
+-- Assumes nothing.
+use mathlib.Core.Path.{refl, subst}
+use Prim.Native.Nat.{ℕ}
+use borrow.Author.Rules.{rules}
+use lib.ListN.{get_or}
+use Rattle.waiting.specs.Waiting.{Usual}
+use Rattle.measure.proofs.Turn.{not_measurable, measuring_first, measuring_next, measuring_last}
+use Rattle.measure.proofs.Turn.{KeptAt, measuring_unusual, measuring_state, measuring_lacking, measuring_early}
+use Rattle.measure.proofs.measure.Goals as goal
+
+pub returns-then-not-ready-clause-by_index : goal.returns-then-not-ready-clause-by_index
+returns-then-not-ready-clause-by_index c =
+    λ F M o. not_measurable c.args.tree.now c.args.plan.now (search rules) (c.ready.ensures.if_false c.if-not-ready.true) M M.start
+
+pub loop-at-init : goal.loop-at-init
+loop-at-init c =
+    let r = c.ready.ensures.if_true c.if-not-ready.false in
+    measuring_first c.args.numbers.now c.args.tree.now _ _ c.start-next.result r.short r.places refl c.start-next.ensures.meant_by
+
+pub returns-then-not-usual-clause-by_index : goal.returns-then-not-usual-clause-by_index
+returns-then-not-usual-clause-by_index c =
+    λ F M o. measuring_unusual c.loop-at.invariant F M o c.loop-at-test.true
+    (λ u. c.usual.ensures.if_false c.if-not-usual.true (rw c.wide-f.ensures.0 u))
+
+pub returns-then-x-eq0-clause-by_index : goal.returns-then-x-eq0-clause-by_index
+returns-then-x-eq0-clause-by_index c =
+    let met : Usual c.wide-f.result c.loop-at.next c.loop-at.top =
+    c.usual.ensures.if_true c.if-not-usual.false in
+    let kept : KeptAt c.args.numbers.now c.loop-at.next (get_or c.args.tree.now c.loop-at.at 0) c.kept_for_full-x.result =
+    subst (λ (f : ℕ). KeptAt c.args.numbers.now c.loop-at.next f c.kept_for_full-x.result) c.wide-f.ensures.0 c.kept_for_full-x.ensures in
+    let h = (met).waits in
+    λ F M o. measuring_lacking c.loop-at.invariant F M o h _ (kept F M o (measuring_state c.loop-at.invariant F M o h)) c.if-x-eq0.true
+
+pub loop-at-preserved : goal.loop-at-preserved
+loop-at-preserved c =
+    let met : Usual c.wide-f.result c.loop-at.next c.loop-at.top =
+    c.usual.ensures.if_true c.if-not-usual.false in
+    let kept : KeptAt c.args.numbers.now c.loop-at.next (get_or c.args.tree.now c.loop-at.at 0) c.kept_for_full-x.result =
+    subst (λ (f : ℕ). KeptAt c.args.numbers.now c.loop-at.next f c.kept_for_full-x.result) c.wide-f.ensures.0 c.kept_for_full-x.ensures in
+    measuring_next c.loop-at.invariant _ c.loop-at-test.true
+    (subst (λ (f : ℕ). Usual f c.loop-at.next c.loop-at.top) c.wide-f.ensures.0 (met))
+    (kept) c.if-x-eq0.false
+    (record {
+      planned = c.plan_of.ensures;
+      letters = c.letters_in-sum.result;
+      few = c.letters_in-sum.ensures.upper_bound;
+      written = c.letters_in-sum.ensures.by_index;
+      counted = refl;
+      made = c.turn-next.ensures;
+      kids_few = c.kids_in.ensures.upper_bound;
+      kids = c.kids_in.ensures.by_index;
+    })
+    refl
+
+pub returns-then-top-gt0-clause-by_index : goal.returns-then-top-gt0-clause-by_index
+returns-then-top-gt0-clause-by_index c =
+    λ F M o. measuring_early c.loop-at.invariant F M o c.loop-at-test.false c.if-top-gt0.true
+
+pub returns-clause-by_index : goal.returns-clause-by_index
+returns-clause-by_index c =
+    measuring_last c.loop-at.invariant c.loop-at-test.false c.if-top-gt0.false

@@ -1,0 +1,14 @@
+-- `why` meets its contract: the shape's refusal handed on, or 9 where the walk down the tree stopped. Assumes nothing.
+use Rattle.why_no_word.proofs.Calls.{shape_answers, lacking_answers}
+use Rattle.why_no_word.proofs.why.Goals as goal
+
+pub returns-in-Refused : goal.returns-in-Refused
+returns-in-Refused c =
+    λ M o n. shape_answers (record { opened = o; checked = c.check.ensures M o }) _ c.in-Refused.is
+
+pub returns-in-Ends : goal.returns-in-Ends
+returns-in-Ends c =
+    λ M o n.
+    rw c.place_of.ensures
+    (lacking_answers (record { opened = o; checked = c.check.ensures M o }) _ c.in-Ends.is n
+    c.start-start.result (c.start-start.ensures.meant_by _ M o) c.lacking-walk.result c.lacking-walk.ensures.by_index)
