@@ -1,5 +1,7 @@
 // The reading of a stream under an opened table: the last symbol of its list, where the stream is a record's with an image of at most
 // 32,768 symbols; or 20, 21, 22, 23 or 6.
+#![tactic(auto)]
+
 ghost use Rattle.std.specs.Prelude.{◌≡◌, List, ℕ};
 ghost use Rattle.words.specs.Reply.{given};
 ghost use Rattle.records.specs.Symbols.{last_symbol};
