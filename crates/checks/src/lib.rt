@@ -1,4 +1,6 @@
 // The checks 13 to 18 by their numbers, on the states that are reached and the summaries at both sides: the least place that does not pass.
+#![tactic(auto)]
+
 ghost use Rattle.std.specs.Prelude.{◌≡◌, not, ◌<◌, length};
 ghost use Rattle.machine.specs.Machine.{Table};
 ghost use Rattle.end_laws.specs.Ends.{stuck};

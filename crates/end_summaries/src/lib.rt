@@ -1,6 +1,8 @@
 // The ends of each state's words in an opened table, at the left or at the right: whether there is no letter, one and which, or several.
 // Nothing is asked of the lent bytes and numbers but how many numbers they are: reads are clamped,
 // and each contract speaks of every table that they mean.
+#![tactic(auto)]
+
 ghost use Rattle.std.specs.Prelude.{◌≡◌, length};
 ghost use Rattle.text.specs.Limits.{states_most};
 ghost use Rattle.layout.specs.Layout.{numbers_size};

@@ -1,0 +1,48 @@
+-- `least_rule` meets its contract. Invariant: the search from i on finds what the whole search finds.
+use native.Mathlib.Omega.{arith}
+use mathlib.Core.Path.{ap, ◌∙◌}
+use lib.ListN.{length, get_elem?}
+use Rattle.end_laws.specs.Companion.{least}
+use Rattle.summary.specs.Codes.{K}
+use Rattle.checks.proofs.Tests.{least_on, least_here, least_end}
+use Rattle.checks.proofs.Rows.{free_at, row_test}
+use Rattle.checks.proofs.Pushing.{free_rows}
+use Rattle.checks.proofs.rules.least_rule.Goals as goal
+
+pub returns-then-not-some_narrow : goal.returns-then-not-some_narrow
+returns-then-not-some_narrow c =
+    λ M o. free_rows (K c.args.left.now) (c.some_narrow.ensures c.if-not-some_narrow.true) (get_elem? M.rows) (length M.rows) 0
+
+pub loop-i-init : goal.loop-i-init
+loop-i-init c = (
+  omega arith,
+  c.rules-count.ensures.upper_bound,
+  λ M o. (c.rules-count.ensures.meant_by c.args.frames.now M o, ap (λ n. least (free_at M c.args.left.now) n 0) (omega arith)),
+)
+
+pub returns-then-not-free_rule : goal.returns-then-not-free_rule
+returns-then-not-free_rule c =
+    λ M o.
+    let v = c.loop-i.invariant.2 M o in
+    let test = row_test M c.args.left.now c.loop-i.i c.free_rule.result (omega (arith, v.0, c.loop-i-test.true)) (λ row e.
+    c.free_rule.ensures M row o e) in
+    let whole = v.1 ∙ ap (λ k. least (free_at M c.args.left.now) k 0) v.0 in
+    least_here (free_at M c.args.left.now) c.rules-count.result c.loop-i.i whole c.loop-i-test.true test c.if-not-free_rule.true
+
+pub loop-i-preserved : goal.loop-i-preserved
+loop-i-preserved c = (
+  omega arith,
+  c.loop-i.invariant.1,
+  λ M o.
+      let v = c.loop-i.invariant.2 M o in
+      let test = row_test M c.args.left.now c.loop-i.i c.free_rule.result (omega (arith, v.0, c.loop-i-test.true)) (λ row e.
+      c.free_rule.ensures M row o e) in
+      (v.0, least_on (free_at M c.args.left.now) c.rules-count.result c.loop-i.i v.1 c.loop-i-test.true test c.if-not-free_rule.false),
+)
+
+pub returns : goal.returns
+returns c =
+    λ M o.
+    let v = c.loop-i.invariant.2 M o in
+    let whole = v.1 ∙ ap (λ n. least (free_at M c.args.left.now) n 0) v.0 in
+    least_end (free_at M c.args.left.now) c.rules-count.result c.loop-i.i whole c.loop-i-test.false
