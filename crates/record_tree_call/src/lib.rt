@@ -1,4 +1,6 @@
 // The tree of a record by an opened table: its stream is read, the levels of its image are counted, and the image is spelled out.
+#![tactic(auto)]
+
 ghost use Rattle.std.specs.Prelude.{List, ℕ, ◌<◌, length};
 ghost use Rattle.trees.specs.Shape.{tree_most};
 ghost use Rattle.records.specs.Calls.{tree_of};
