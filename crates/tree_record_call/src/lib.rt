@@ -1,4 +1,6 @@
 // The record of a tree by an opened table: where the tree bytes are a record's image its stream is written; else why not.
+#![tactic(auto)]
+
 ghost use Rattle.std.specs.Prelude.{◌≡◌, ◌<◌, ◌≤◌, length};
 ghost use Rattle.words.specs.Reply.{given};
 ghost use Rattle.words.specs.Told.{Told};
