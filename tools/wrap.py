@@ -52,9 +52,9 @@ def wrapped(line):
 def main():
     crates = sys.argv[1:] or sorted(path.name for path in (ROOT / "crates").iterdir())
     for crate in crates:
-        for path in sorted((ROOT / "crates" / crate).rglob("*.antt")):
+        for path in sorted((ROOT / "crates" / crate / "proofs").rglob("*.antt")):
             lines = path.read_text().split("\n")
-            if "out" in path.relative_to(ROOT / "crates" / crate).parts[:1] or all(len(line) <= LONGEST for line in lines):
+            if all(len(line) <= LONGEST for line in lines):
                 continue
             path.write_text("\n".join(piece for line in lines for piece in wrapped(line)))
             print(path.relative_to(ROOT))
