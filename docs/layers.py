@@ -22,7 +22,8 @@ def read():
         if line.startswith("#"):
             parts.append(line.lstrip("# ").rstrip("."))
         elif ":" in line:
-            name, rest = line.split(":", 1)
+            named, rest = line.split(":", 1)
+            name = named.split()[0]
             crates[name] = (rest.split("#")[0].split(), len(parts) - 1)
     ours = {name: ([need for need in needs if need in crates], part) for name, (needs, part) in crates.items()}
     return ours, parts

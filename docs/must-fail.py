@@ -12,7 +12,7 @@ ROOT = pathlib.Path(__file__).parent.parent
 HEAD = """# Wrong programs that are refused
 
 Each edit below makes a wrong program, or a wrong definition, out of a right one, and the prover has to refuse it: the gate tries them all. \
-Beside each stands the fact that then fails. After a run the prover's first error is in `target/must-fail/CRATE/LABEL/.log`.
+Beside each stands the fact that then fails. `rt ci` prints the prover's error on the line `rt: must-fail CRATE/EDIT.edit`.
 
 A contract that allows one result only excludes every program that differs anywhere (the laws for that are named in [CONTRACTS.md](CONTRACTS.md)). \
 So here are the wrong programs that document 01 names and those that look most like sense, each in the smallest crate that can refuse it.
@@ -28,8 +28,8 @@ def crates():
         if line.startswith("#"):
             parts.append((line.lstrip("# ").rstrip("."), []))
         elif ":" in line:
-            name, rest = line.split(":", 1)
-            parts[-1][1].append((name, rest.partition("#")[2].strip()))
+            named, rest = line.split(":", 1)
+            parts[-1][1].append((named.split()[0], rest.partition("#")[2].strip()))
     return parts
 
 

@@ -4,7 +4,7 @@
  * judge a table earliest or say why not, write the form of a table, and compare two tables. They take
  * records for trees: they find the word of a record, write its tree, and write the record of a tree.
  *
- * Link with target/staticlib/libfadurinko_c.a, which `rt staticlib fadurinko_c` writes (x86-64).
+ * Link with crates/fadurinko_c/out/libfadurinko_c.a, which `rt lib` in crates/fadurinko_c writes (x86-64).
  * Nothing here allocates, keeps anything between calls, reads a file or prints. Calls may run on
  * several threads at once if no two of them write to the same bytes: one open table serves many
  * threads if each lends a plan of its own (fadurinko_find_with, fadurinko_record_word_with). How much

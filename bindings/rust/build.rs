@@ -9,14 +9,14 @@ fn main() {
     println!("cargo:rerun-if-env-changed={VARIABLE}");
     let folder = match std::env::var_os(VARIABLE) {
         Some(folder) => PathBuf::from(folder),
-        None => Path::new(env!("CARGO_MANIFEST_DIR")).join("../../target/staticlib"),
+        None => Path::new(env!("CARGO_MANIFEST_DIR")).join("../../crates/fadurinko_c/out"),
     };
     let archive = folder.join(ARCHIVE);
     println!("cargo:rerun-if-changed={}", archive.display());
     if !archive.is_file() {
         eprintln!(
-            "{} is not there. Make it with `rt staticlib fadurinko_c` in the folder of the repository, \
-             or name the folder that has {ARCHIVE} in the variable {VARIABLE}.",
+            "{} is not there. Make it with `rt lib` in the repository's folder crates/fadurinko_c, or name \
+             the folder that has {ARCHIVE} in the variable {VARIABLE}.",
             archive.display()
         );
         std::process::exit(1);

@@ -1,6 +1,7 @@
-//! `edges BIN_FOLDER SECOND_PROGRAM EXAMPLES_FOLDER [SEED]` runs the programs of a folder as a user, a
-//! pipe or a terminal meets them, and compares their answers with those of the second program. A line
-//! for each case that fails, and a count last. Exit status 1 if a case fails, 2 if none could be tried.
+//! `edges CRATES_FOLDER SECOND_PROGRAM EXAMPLES_FOLDER [SEED]` runs the programs of a folder of crates,
+//! each `NAME/out/NAME` there, as a user, a pipe or a terminal meets them, and compares their answers
+//! with those of the second program. A line for each case that fails, and a count last. Exit status 1
+//! if a case fails, 2 if none could be tried.
 
 mod asked;
 mod check;
@@ -25,7 +26,7 @@ use std::process::ExitCode;
 use report::Report;
 use setting::Setting;
 
-const USAGE: &str = "usage: edges BIN_FOLDER SECOND_PROGRAM EXAMPLES_FOLDER [SEED]";
+const USAGE: &str = "usage: edges CRATES_FOLDER SECOND_PROGRAM EXAMPLES_FOLDER [SEED]";
 
 fn main() -> ExitCode {
     let words: Vec<String> = std::env::args().skip(1).collect();
@@ -51,10 +52,10 @@ fn setting_of(words: &[String]) -> Result<Setting, String> {
         }
         places => (places, 1),
     };
-    let [programs, second, examples] = places else {
+    let [crates, second, examples] = places else {
         return Err(USAGE.to_string());
     };
-    Setting::new(programs, second, examples, seed)
+    Setting::new(crates, second, examples, seed)
 }
 
 fn run_all(setting: &Setting) -> Report {

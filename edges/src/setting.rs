@@ -11,7 +11,7 @@ use fadurinko_second::rng::Rng;
 const NAMES: [&str; 4] = ["word", "judge", "form", "compare"];
 
 pub struct Setting {
-    programs: PathBuf,
+    crates: PathBuf,
     pub second: PathBuf,
     examples: PathBuf,
     work: PathBuf,
@@ -20,16 +20,16 @@ pub struct Setting {
 }
 
 impl Setting {
-    pub fn new(programs: &str, second: &str, examples: &str, seed: u64) -> Result<Setting, String> {
-        let programs = whole_path(programs)?;
+    pub fn new(crates: &str, second: &str, examples: &str, seed: u64) -> Result<Setting, String> {
+        let crates = whole_path(crates)?;
         for name in NAMES {
-            whole_path(programs.join(name))?;
+            whole_path(program_in(&crates, name))?;
         }
         let (second, examples) = (whole_path(second)?, whole_path(examples)?);
         let work = std::env::temp_dir().join(format!("fadurinko-edges-{}", std::process::id()));
         fs::create_dir_all(&work).map_err(|error| format!("{}: {error}", work.display()))?;
         Ok(Setting {
-            programs,
+            crates,
             second,
             examples,
             work,
@@ -44,7 +44,7 @@ impl Setting {
     }
 
     pub fn program(&self, name: &str) -> PathBuf {
-        self.programs.join(name)
+        program_in(&self.crates, name)
     }
 
     pub fn example(&self, name: &str) -> PathBuf {
@@ -95,6 +95,11 @@ impl Drop for Setting {
     fn drop(&mut self) {
         let _ = fs::remove_dir_all(&self.work);
     }
+}
+
+/// Where a program of the folder of crates stands once it is proved and built.
+fn program_in(crates: &Path, name: &str) -> PathBuf {
+    crates.join(name).join("out").join(name)
 }
 
 /// The path from the root, so that it holds in every folder; an error if nothing is there.

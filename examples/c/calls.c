@@ -1,7 +1,8 @@
 /* Every call once, with null pointers, short rooms and guard bytes. From the folder of the repository:
  *
- *   rt staticlib fadurinko_c
- *   gcc -std=c99 -Wall -Wextra -pedantic -O2 -Iinclude examples/c/calls.c target/staticlib/libfadurinko_c.a -o target/calls-in-c
+ *   (cd crates/fadurinko_c && rt lib)
+ *   mkdir -p target
+ *   gcc -std=c99 -Wall -Wextra -pedantic -O2 -Iinclude examples/c/calls.c crates/fadurinko_c/out/libfadurinko_c.a -o target/calls-in-c
  *   target/calls-in-c
  *
  * It prints "N answers as expected", or what was answered instead and exit status 1. */

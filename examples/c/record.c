@@ -1,7 +1,8 @@
 /* The word of a record, its tree, and the record of a tree. From the folder of the repository:
  *
- *   rt staticlib fadurinko_c
- *   gcc -std=c99 -Wall -Wextra -pedantic -O2 -Iinclude examples/c/record.c target/staticlib/libfadurinko_c.a -o target/record-in-c
+ *   (cd crates/fadurinko_c && rt lib)
+ *   mkdir -p target
+ *   gcc -std=c99 -Wall -Wextra -pedantic -O2 -Iinclude examples/c/record.c crates/fadurinko_c/out/libfadurinko_c.a -o target/record-in-c
  *   target/record-in-c
  *   target/record-in-c word examples/records.table 000102ff02ffff01ffff 0002ffff
  *

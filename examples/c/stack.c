@@ -1,7 +1,8 @@
 /* How much stack each call takes, beside what the header says. From the folder of the repository:
  *
- *   rt staticlib fadurinko_c
- *   gcc -std=c99 -Wall -Wextra -pedantic -O2 -Iinclude examples/c/stack.c target/staticlib/libfadurinko_c.a -o target/stack-in-c
+ *   (cd crates/fadurinko_c && rt lib)
+ *   mkdir -p target
+ *   gcc -std=c99 -Wall -Wextra -pedantic -O2 -Iinclude examples/c/stack.c crates/fadurinko_c/out/libfadurinko_c.a -o target/stack-in-c
  *   target/stack-in-c
  *
  * Each call runs on a stack of its own that is painted before; the deepest byte that has lost its

@@ -1,7 +1,8 @@
 /* One open table on several threads. From the folder of the repository:
  *
- *   rt staticlib fadurinko_c
- *   gcc -std=c99 -Wall -Wextra -pedantic -O2 -pthread -Iinclude examples/c/threads.c target/staticlib/libfadurinko_c.a -o target/threads-in-c
+ *   (cd crates/fadurinko_c && rt lib)
+ *   mkdir -p target
+ *   gcc -std=c99 -Wall -Wextra -pedantic -O2 -pthread -Iinclude examples/c/threads.c crates/fadurinko_c/out/libfadurinko_c.a -o target/threads-in-c
  *   target/threads-in-c
  *
  * The table is only read; each thread lends a plan and a room of its own, and finds each word by a tree

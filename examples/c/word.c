@@ -1,7 +1,8 @@
 /* The word of a tree. From the folder of the repository:
  *
- *   rt staticlib fadurinko_c
- *   gcc -std=c99 -Wall -Wextra -pedantic -O2 -Iinclude examples/c/word.c target/staticlib/libfadurinko_c.a -o target/word-in-c
+ *   (cd crates/fadurinko_c && rt lib)
+ *   mkdir -p target
+ *   gcc -std=c99 -Wall -Wextra -pedantic -O2 -Iinclude examples/c/word.c crates/fadurinko_c/out/libfadurinko_c.a -o target/word-in-c
  *   target/word-in-c
  *   target/word-in-c examples/clips.table 000102030402 0002 02
  *

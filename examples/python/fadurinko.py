@@ -1,10 +1,11 @@
 """The proved calls from Python, by ctypes. From the folder of the repository:
 
-    rt staticlib fadurinko_c
-    gcc -shared -o target/libfadurinko.so -Wl,--whole-archive target/staticlib/libfadurinko_c.a -Wl,--no-whole-archive
+    (cd crates/fadurinko_c && rt lib)
+    mkdir -p target
+    gcc -shared -o target/libfadurinko.so -Wl,--whole-archive crates/fadurinko_c/out/libfadurinko_c.a -Wl,--no-whole-archive
     python3 examples/python/fadurinko.py
 
-The second command makes a shared library of the archive, whose code can stand anywhere. As a module
+The third command makes a shared library of the archive, whose code can stand anywhere. As a module
 this file looks for it in target/, or where the variable FADURINKO_SO says.
 
     import fadurinko

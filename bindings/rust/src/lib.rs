@@ -48,9 +48,9 @@
 //! # }
 //! ```
 //!
-//! The calls are linked from libfadurinko_c.a, which `rt staticlib fadurinko_c` writes in the folder
-//! of the repository (x86-64). The build looks for it in `target/staticlib` there, or in the folder
-//! that the variable `FADURINKO_LIB` names. This crate needs no other.
+//! The calls are linked from libfadurinko_c.a, which `rt lib` in `crates/fadurinko_c` writes (x86-64).
+//! The build looks for it in `crates/fadurinko_c/out`, or in the folder that the variable
+//! `FADURINKO_LIB` names. This crate needs no other.
 //!
 //! Each no is a [`Refusal`] with a number and a place; its `Display` says what to do. How much stack a
 //! call takes at most is in [`limit`]: [`limit::STACK_RECORD_WORD`] for the word of a record by a text,

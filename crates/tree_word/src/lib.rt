@@ -1,4 +1,6 @@
 // The word of a planned tree, put into a room behind what stands there; and a word that is at hand, put there.
+#![tactic(auto)]
+
 ghost use Rattle.std.specs.Prelude.{◌≡◌, ◌++◌, ℕ, ◌+◌, ◌≤◌, length, take, drop};
 ghost use Rattle.words.specs.Word.{Word};
 ghost use Rattle.machine.specs.Machine.{Tree, Table};
