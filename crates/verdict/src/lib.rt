@@ -1,5 +1,7 @@
 // The judgement of an opened table: refusals 13 to 18.
 // Nothing is asked of the lent bytes and numbers: reads are clamped, and each contract speaks of every table that they mean.
+#![tactic(auto)]
+
 ghost use Rattle.std.specs.Prelude.{◌≡◌, length};
 ghost use Rattle.machine.specs.Verdict.{Judged};
 ghost use Rattle.end_laws.specs.Companion.{judge_by};
