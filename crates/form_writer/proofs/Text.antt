@@ -1,13 +1,12 @@
 -- The form's text, piece by piece as it is written.
 use mathlib.Core.Path.{◌≡◌, sym, ap, ap₂, ◌∙◌}
 use mathlib.Core.List.{List, [], ◌∷◌, ◌++◌, append_assoc, append-nil}
-use Prim.Native.Nat.{ℕ, zero, ◌+◌, ◌<◌, ◌≤◌}
+use Prim.Native.Nat.{ℕ, zero, ◌+◌, ◌<◌}
 use native.Mathlib.Numerals.{add-one}
-use native.Mathlib.Omega.{arith}
-use lib.ListN.{length, get_or, take, length-take}
+use lib.ListN.{length, get_or, take}
 use lib.Seq.{take-suc}
 use Rattle.machine.specs.Machine.{Row, Table}
-use Rattle.machine.specs.Form.{Test, Decides, order, renumbered, form_of}
+use Rattle.machine.specs.Form.{Test, Decides, renumbered, form_of}
 use Rattle.text.specs.Lines.{hex_of, line_of}
 use Rattle.text.specs.Writing.{text_of, initial_frame, symbol_lines, row_lines, write_table, Limited}
 use Rattle.text.proofs.Digits.{hex_append}
@@ -26,12 +25,14 @@ symbol_line a b e = ap (λ (k : ℕ). hex_of (1 ∷ k ∷ []) ++ 10 ∷ []) e
 pub symbols_more : (xs : List ℕ) (k : ℕ) → k < length xs → symbol_lines (take k xs) ++ line_of (1 ∷ get_or xs k 0 ∷ []) ≡ symbol_lines (take (k + 1) xs)
 unfolding symbol_lines
 symbols_more xs k h =
-    ap (λ (l : List ℕ). symbol_lines (take k xs) ++ l) (sym (append-nil (line_of (1 ∷ get_or xs k 0 ∷ [])))) ∙ sym (symbols_append (take k xs) (get_or xs k 0 ∷ []))
+    ap (λ (l : List ℕ). symbol_lines (take k xs) ++ l) (sym (append-nil (line_of (1 ∷ get_or xs k 0 ∷ [])))) ∙ sym
+    (symbols_append (take k xs) (get_or xs k 0 ∷ []))
     ∙ ap symbol_lines (sym (take-suc xs k 0 h)) ∙ ap (λ (n : ℕ). symbol_lines (take n xs)) (sym (add-one k))
 
 -- The pieces of the initial rule's line.
 pub initial_line : (n : ℕ) (b a : List ℕ)
-    → hex_of (2 ∷ []) ++ hex_of (n ∷ []) ++ hex_of (text_of b) ++ hex_of (0 ∷ []) ++ hex_of (text_of a) ++ 10 ∷ [] ≡ line_of (2 ∷ n ∷ text_of b ++ 0 ∷ text_of a)
+    → hex_of (2 ∷ []) ++ hex_of (n ∷ []) ++ hex_of (text_of b) ++ hex_of (0 ∷ []) ++ hex_of (text_of a) ++ 10 ∷ [] ≡ line_of
+    (2 ∷ n ∷ text_of b ++ 0 ∷ text_of a)
 unfolding hex_of line_of
 initial_line n b a =
     rw (hex_append b (0 ∷ text_of a)) (ap (λ (l : List ℕ). l ++ 10 ∷ []) (append_assoc (hex_of (2 ∷ n ∷ text_of b)) (hex_of (0 ∷ [])) (hex_of (text_of a))))
