@@ -1,6 +1,8 @@
 // One round of parting the states of an opened table into classes: states of a class stay together if their rows match up to the classes.
 // The first round compares words. States that it leaves together have the same, so later rounds compare children alone.
 // Of the lent bytes only their sizes are asked: each contract speaks of every table that they mean.
+#![tactic(auto)]
+
 ghost use Rattle.std.specs.Prelude.{◌≡◌, true, ℕ, ◌<◌, ◌≤◌};
 ghost use Rattle.words.specs.Told.{Told};
 ghost use Rattle.machine.specs.Machine.{Table};

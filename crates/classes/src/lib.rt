@@ -3,6 +3,8 @@
 // the rounds end when one parts no class.
 // Nothing is asked of the lent bytes: numbers of another size than an opened table's are left alone, and each contract
 // speaks of every table that the bytes mean.
+#![tactic(auto)]
+
 ghost use Rattle.std.specs.Prelude.{◌≡◌, ℕ, ◌<◌, ◌≤◌, length, get_or};
 ghost use Rattle.text.specs.Limits.{states_most};
 ghost use Rattle.layout.specs.Layout.{numbers_size, Meant};

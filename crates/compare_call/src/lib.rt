@@ -1,4 +1,6 @@
 // Two table texts compared: both are judged, and their tables compared where both are earliest.
+#![tactic(auto)]
+
 ghost use Rattle.std.specs.Prelude.{◌≡◌};
 ghost use Rattle.promises.specs.Comparison.{ComparisonAnswer};
 ghost use Rattle.comparison.specs.Answers.{comparison_of};

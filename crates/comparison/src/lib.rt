@@ -1,5 +1,7 @@
 // Two opened earliest tables compared: their forms are written, and told to be one or not.
 // Nothing is asked of the lent bytes: each contract speaks of every two tables that they mean.
+#![tactic(auto)]
+
 ghost use Rattle.std.specs.Prelude.{◌≡◌, List, ℕ, ◌≤◌};
 ghost use Rattle.words.specs.Told.{Told};
 ghost use Rattle.machine.specs.Machine.{Table};

@@ -1,4 +1,6 @@
 // Bytes and words written as hexadecimal digits into a lent room. What has no place in the room is left out, so that each writer can be asked for any place.
+#![tactic(auto)]
+
 ghost use Rattle.std.specs.Prelude.{◌≡◌, [], ◌∷◌, ◌+◌, ◌*◌, ◌<◌, ◌≤◌, length};
 ghost use Rattle.text.specs.Lines.{digit_of, hex_of};
 ghost use Rattle.text.specs.Writing.{text_of};

@@ -1,5 +1,7 @@
 // Answers as C and Rust link them: the number is returned, 0 for a yes; what else an answer holds goes
 // into one array, every entry of which is written.
+#![tactic(auto)]
+
 ghost use Rattle.std.specs.Prelude.{◌≡◌};
 ghost use Rattle.verdict.specs.Judgement.{verdict_of};
 ghost use Rattle.why_no_word.specs.Answer as word;

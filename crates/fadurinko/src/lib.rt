@@ -1,5 +1,7 @@
 // The public calls on texts: word, judge, form and compare; the word and the tree of a record, and the record of a tree. None asks
 // anything of its inputs; each settles number, place, counts and every byte of the room.
+#![tactic(auto)]
+
 ghost use Rattle.std.specs.Prelude.{length};
 ghost use Rattle.promises.specs.Word.{word_answer};
 ghost use Rattle.promises.specs.Records.{word_of_record, tree_of_record, record_of_tree, on_text};

@@ -1,5 +1,7 @@
 // The public calls as C and Rust link them. The number is returned, 0 for a yes; what else an answer
 // holds goes into one array, every entry of which each call writes. Those on records: record_calls.rt.
+#![tactic(auto)]
+
 ghost use Rattle.std.specs.Prelude.{length};
 ghost use Rattle.machine.specs.Machine.{Table};
 ghost use Rattle.machine.specs.Verdict as verdict;

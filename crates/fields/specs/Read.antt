@@ -1,5 +1,5 @@
 -- What reading a field at a place of the decoded bytes answers. Definitions only.
-use Rattle.std.specs.Prelude.{◌≡◌, List, [], ◌∷◌, ℕ, ◌+◌, ◌*◌, ◌^◌, ◌≤◌, ◌<◌, length}
+use Rattle.std.specs.Prelude.{◌≡◌, List, ℕ, ◌+◌, ◌*◌, ◌^◌, ◌≤◌, ◌<◌, length}
 use Rattle.std.proofs.Math.Seq.{slice}
 use Rattle.words.specs.Word.{Word}
 use Rattle.machine.specs.Machine.{Child}

@@ -1,5 +1,7 @@
 // The fields of a frame, read from left to right: each answers its value and where the next one
 // stands, or a number of no.
+#![tactic(auto)]
+
 ghost use Rattle.std.specs.Prelude.{◌≡◌, ◌+◌, ◌*◌, ◌^◌, ◌<◌, ◌≤◌, length};
 ghost use Rattle.std.proofs.Math.Seq.{slice};
 ghost use Rattle.text.specs.Fields as text;

@@ -1,4 +1,6 @@
 // The form of a table text: it is judged, and formed where it is earliest.
+#![tactic(auto)]
+
 ghost use Rattle.std.specs.Prelude.{◌≡◌};
 ghost use Rattle.machine.specs.Machine.{Table};
 ghost use Rattle.machine.specs.Earliest.{Earliest};

@@ -1,1 +1,3 @@
+#![tactic(auto)]
+
 // Laws of the form, and nothing else: see proofs/.

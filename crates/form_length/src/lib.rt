@@ -1,5 +1,7 @@
 // The length of the form's text, by the states' first-visit numbers.
 // Nothing is asked of the opened table: each promise speaks of every table that the lent bytes and numbers mean.
+#![tactic(auto)]
+
 ghost use Rattle.std.specs.Prelude.{◌≤◌};
 ghost use Rattle.text.specs.Limits.{states_most};
 ghost use Rattle.form_length.specs.Long.{StatesLong, FormLong};

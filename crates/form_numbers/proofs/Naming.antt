@@ -3,7 +3,7 @@ use mathlib.Core.Path.{◌≡◌, refl, ap}
 use mathlib.Core.List.{List}
 use Prim.Native.Nat.{ℕ, zero, suc, ◌-◌, ◌<◌, ◌≤◌}
 use native.Mathlib.Omega.{arith}
-use lib.ListN.{length, get_or, take, replicate, length-take}
+use lib.ListN.{length, get_or, replicate, length-take}
 use Rattle.machine.specs.Machine.{Table}
 use Rattle.machine.specs.Form.{Test, Decides, order}
 use Rattle.form_laws.proofs.Visit.{same_self}

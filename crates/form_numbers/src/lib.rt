@@ -1,4 +1,6 @@
 // The states of an opened table numbered by first visit: the number of a state is that of its class.
+#![tactic(auto)]
+
 ghost use Rattle.std.specs.Prelude.{◌≡◌, ℕ, ◌-◌, ◌<◌, ◌≤◌, length, get_or};
 ghost use Rattle.text.specs.Limits.{states_most};
 ghost use Rattle.form_numbers.specs.Numbers.{StatesNumbered};

@@ -1,4 +1,6 @@
 // The lines of the form's rules: each rule's bytes with the states' new numbers, by state.
+#![tactic(auto)]
+
 ghost use Rattle.std.specs.Prelude.{◌+◌, ◌<◌, ◌≤◌, length};
 ghost use Rattle.text.specs.Limits.{states_most, rows_most};
 ghost use Rattle.form_rows.specs.Rows.{Renamed, RowWritten, RuleWritten, RulesWritten, StatesWritten};

@@ -1,5 +1,7 @@
 // The form of an opened table, by the states' first-visit numbers: its text, written line by line.
 // None of these functions asks anything of the opened table: each promise speaks of every table that the lent bytes and numbers mean.
+#![tactic(auto)]
+
 ghost use Rattle.form_writer.specs.Lines.{FormTextWritten};
 
 use crate::lines::{put_initial, put_symbols};

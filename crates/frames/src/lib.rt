@@ -1,4 +1,6 @@
 // A frame of a table text: what it makes of the table read so far.
+#![tactic(auto)]
+
 ghost use Rattle.std.specs.Prelude.{◌≡◌, List, ℕ, ◌+◌, ◌≤◌, length, get_or};
 ghost use Rattle.std.proofs.Math.Seq.{slice};
 ghost use Rattle.machine.specs.Machine.{Table};

@@ -1,4 +1,6 @@
 // The judgement of a table text: it is opened, and judged where that is not refused.
+#![tactic(auto)]
+
 ghost use Rattle.std.specs.Prelude.{◌≡◌, length};
 ghost use Rattle.layout.specs.Layout.{frames_size, numbers_size};
 ghost use Rattle.promises.specs.Judgement.{JudgementAnswer};

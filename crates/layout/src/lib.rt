@@ -1,6 +1,8 @@
 // The opened table: how many bytes and numbers are lent, total reads of them, and the leaves that read the head.
 // Everything above reads an opened table through leaves: these, those of rule_leaves and those of word_leaves.
 // None asks anything of the lent bytes and numbers: reads are clamped, and each contract speaks of every table that they mean.
+#![tactic(auto)]
+
 ghost use Rattle.std.specs.Prelude.{◌≡◌, ◌+◌, ◌<◌, ◌≤◌, length, get_or};
 ghost use Rattle.layout.specs.Leaves.{word_at, behind_at};
 

@@ -1,4 +1,6 @@
 // One line of lowercase hexadecimal, decoded into lent bytes.
+#![tactic(auto)]
+
 ghost use Rattle.std.specs.Prelude.{◌≡◌, ◌+◌, ◌*◌, ◌<◌, ◌≤◌, length, drop};
 ghost use Rattle.text.specs.Limits.{text_most};
 ghost use Rattle.lines.specs.Scan.{scan, Valued, EndedAt, LineTaken};

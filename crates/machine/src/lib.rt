@@ -1,1 +1,3 @@
+#![tactic(auto)]
+
 // The machine as mathematics: this crate has definitions and laws, and no code.

@@ -1,12 +1,11 @@
 -- The calls on records under a table text: the text's refusals first, then what the call answers on its table. Assumes nothing.
 use mathlib.Core.Path.{◌≡◌, refl, sym, ap, ◌∙◌}
 use mathlib.Core.List.{List}
-use mathlib.Core.Logic.{◌⊎◌, inl, inr, ⊎_elim, ◌↔◌}
+use mathlib.Core.Logic.{◌⊎◌, inl, inr, ◌↔◌}
 use Prim.Native.Nat.{ℕ, ◌≤◌}
 use lib.ListN.{length}
-use Rattle.words.specs.Word.{Word}
 use Rattle.words.specs.Reply.{Reply, given, refusal, refused, ◌then◌}
-use Rattle.words.proofs.Replies.{given_refused, given_injective, refusal_injective}
+use Rattle.words.proofs.Replies.{given_refused, refusal_injective}
 use Rattle.machine.specs.Machine.{Table}
 use Rattle.text.specs.Reading.{read_table}
 use Rattle.records.specs.Calls.{spelled}

@@ -1,4 +1,6 @@
 // A reader keeps a table text and the place of its next line together; `lines::take_line` does the work.
+#![tactic(auto)]
+
 ghost use Rattle.std.specs.Prelude.{◌≡◌, ◌*◌, ◌≤◌, length, drop};
 ghost use Rattle.text.specs.Limits.{text_most};
 ghost use Rattle.lines.specs.Scan.{scan, LineTaken};

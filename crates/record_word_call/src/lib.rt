@@ -1,4 +1,6 @@
 // The word of a record by an opened table: its stream is read, its image spelled out in lent bytes, and the image's word found.
+#![tactic(auto)]
+
 ghost use Rattle.std.specs.Prelude.{List, [], ◌∷◌, ◌++◌, map, ◌<◌, length};
 ghost use Rattle.records.specs.Records.{spell};
 ghost use Rattle.layout.specs.Layout.{Meant};

@@ -1,5 +1,5 @@
 -- What is written as a tree is turned back into the same stream, and the other way round; what is refused, and why.
-use mathlib.Core.Path.{◌≡◌, refl, sym, ap, subst, ◌∙◌}
+use mathlib.Core.Path.{◌≡◌, refl, sym, ap, ◌∙◌}
 use mathlib.Core.List.{List}
 use mathlib.Core.Logic.{◌⊎◌, inl, inr, ⊎_elim, ◌↔◌}
 use Prim.Native.Nat.{ℕ, ◌<◌, ◌≤◌}
@@ -22,7 +22,7 @@ use Rattle.records.proofs.Depth.{image_levels}
 use Rattle.records.proofs.Ranked.{image_refused, ranked_read}
 use Rattle.records.proofs.Sound.{read_sound}
 use Rattle.records.proofs.Complete.{read_back}
-use Rattle.records.proofs.Symbols.{last_given, last_length}
+use Rattle.records.proofs.Symbols.{last_given}
 use Rattle.records.proofs.Back.{back_image, image_ranked, back_sound, back_none}
 
 -- The stream s is that of record r, whose labels are in the list ar with last symbol a, and bs are the bytes of its image.
@@ -50,7 +50,8 @@ spelled_refused ar s n p = (there, back)
     after : ℕ → Reply (List ℕ)
     after a = read_record a s then λ r. given (preorder (image a r))
 
-    there : (last_symbol ar then after) ≡ refused n p → (last_symbol ar ≡ refused n p) ⊎ ((a : ℕ) × (last_symbol ar ≡ given a) × (read_record a s ≡ refused n p))
+    there : (last_symbol ar then after) ≡ refused n p → (last_symbol ar ≡ refused n p) ⊎
+        ((a : ℕ) × (last_symbol ar ≡ given a) × (read_record a s ≡ refused n p))
     there e =
         ⊎_elim (λ i. inl i)
         (λ i. ⊎_elim (λ j. inr (i.0, i.1, j)) (λ j. absurd (given_refused _ n p j.2)) (then_refused (read_record i.0 s) _ n p i.2))

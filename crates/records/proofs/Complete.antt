@@ -51,7 +51,8 @@ mutual
       let i = element_read e a (o ∷ os) p (bytes_ofs es ++ rest) m h.0 in
       let j = elements_read es a (holding o e) os (p + length (bytes_of e)) rest m h.1 in
       let k : filled (holding o e) es ≡ filled o (e & es) = ap (λ (z : Elements). record { label = o.label; inside = z }) (append_one o.inside e es) in
-      let q : p + length (bytes_of e) + length (bytes_ofs es) ≡ p + length (bytes_of e ++ bytes_ofs es) = omega (arith, length-append (bytes_of e) (bytes_ofs es)) in
+      let q : p + length (bytes_of e) + length (bytes_ofs es) ≡ p + length (bytes_of e ++ bytes_ofs es) = omega
+      (arith, length-append (bytes_of e) (bytes_ofs es)) in
       ap (read_from a (reading (o ∷ os)) p) (append_assoc (bytes_of e) (bytes_ofs es) rest) ∙ i ∙ j
       ∙ ap (λ (z : Open). read_from a (reading (z ∷ os)) (p + length (bytes_of e) + length (bytes_ofs es)) rest) k
       ∙ ap (λ (z : ℕ). read_from a (reading (filled o (e & es) ∷ os)) z rest) q

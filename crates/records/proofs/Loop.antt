@@ -2,15 +2,14 @@
 use mathlib.Core.Path.{◌≡◌, refl, sym, ap, ap₂, ◌∙◌}
 use mathlib.Core.Bool.{false}
 use mathlib.Core.List.{List, [], ◌∷◌, ◌++◌, map}
-use Prim.Native.Nat.{ℕ, zero, suc, ◌+◌, ◌<◌, ◌≤◌}
+use Prim.Native.Nat.{ℕ, zero, suc, ◌<◌, ◌≤◌}
 use native.Mathlib.Omega.{arith}
 use native.Mathlib.Decide.{dec_lt}
 use borrow.Author.Tests.{eq-eqb, ne_eqb}
 use lib.ListN.{length, get_or, take, drop, length-append, length-map}
 use lib.Seq.{drop-cons, drop-length, take_at}
-use Rattle.words.specs.Reply.{Reply, given, refusal, refused, ◌then◌}
+use Rattle.words.specs.Reply.{Reply, given, refusal, ◌then◌}
 use Rattle.machine.specs.Machine.{Tree}
-use Rattle.trees.specs.Preorder.{preorder}
 use Rattle.trees.specs.Shape.{read_tree}
 use Rattle.trees.proofs.Whole as Whole
 use Rattle.records.specs.Records.{Element, close, bytes_of, bytes_ofs, replaced, unspell}
@@ -85,7 +84,8 @@ module _ (ar : List ℕ) (a : ℕ) (S : RecordSymbols ar a) where
       → check_stream close a (map (unspell a) (take k bs)) ≡ plain (retold (back a t))
   bytes_counter bs k t m n e =
       let w = Whole.read_sound ar bs t e in
-      check_read a (map (unspell a) (take k bs)) ∙ ap (λ (z : List ℕ). plain (read_record a z)) (bytes_front bs k t n e) ∙ ap plain (tree_read_lem ar a S t m w.1)
+      check_read a (map (unspell a) (take k bs)) ∙ ap (λ (z : List ℕ). plain (read_record a z)) (bytes_front bs k t n e) ∙ ap plain
+      (tree_read_lem ar a S t m w.1)
 
   -- Theorem. Where the record is given, these bytes are its stream.
   pub bytes_written : (bs : List ℕ) (k : ℕ) (t : Tree) (r : Element) → a ≤ 255 → suc k ≡ length bs → read_tree ar bs ≡ given t → back a t ≡ given r

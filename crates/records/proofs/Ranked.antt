@@ -1,7 +1,7 @@
 -- The bytes of a ranked tree, and so of a record's image, are refused as a tree with 6 or 10 only.
 use mathlib.Core.Path.{◌≡◌, sym, ap, ◌∙◌}
 use mathlib.Core.List.{List, [], ◌++◌, append_assoc, append-nil}
-use mathlib.Core.Logic.{◌⊎◌, inl, inr, ⊎_elim}
+use mathlib.Core.Logic.{◌⊎◌, inl, inr}
 use Prim.Native.Nat.{ℕ, zero, suc, ◌+◌, ◌<◌, ◌≤◌}
 use native.Mathlib.Nat.{add-zero}
 use native.Mathlib.Omega.{arith}

@@ -1,15 +1,15 @@
 -- Number 20: a list has a last symbol exactly if it is one for records, and otherwise the first wrong index is told.
 use mathlib.Core.Path.{◌≡◌, refl, sym, ap, subst, ◌∙◌}
-use mathlib.Core.Bool.{Bool, true, false, not}
+use mathlib.Core.Bool.{not}
 use mathlib.Core.List.{List, [], ◌∷◌}
-use mathlib.Core.Logic.{◌⊎◌, inl, inr, ⊎_elim, ◌↔◌}
+use mathlib.Core.Logic.{⊎_elim, ◌↔◌}
 use Prim.Native.Nat.{ℕ, zero, suc, ◌+◌, ◌<◌, ◌≤◌}
 use native.Mathlib.Omega.{arith}
 use borrow.Author.Tests.{eqb-true, eqb-false, eq-eqb, ne_eqb, not-true, not-false}
 use lib.Dec.{eqb}
 use lib.ListN.{length, get_or}
-use Rattle.words.specs.Reply.{Reply, given, refused, refuse_if}
-use Rattle.words.proofs.Replies.{given_refused, given_injective, refused_injective, refuse_given, refuse_refused}
+use Rattle.words.specs.Reply.{Reply, given, refused}
+use Rattle.words.proofs.Replies.{given_refused, given_injective, refuse_given, refuse_refused}
 use Rattle.records.specs.Symbols.{RecordSymbols, FirstWrong, last_from, last_symbol}
 
 -- A list with one symbol more before it, which is a label.

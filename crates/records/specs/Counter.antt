@@ -1,5 +1,5 @@
 -- Reading a stream with a count and a flag in place of the elements read; c is the byte that closes. Definitions only.
-use Rattle.std.specs.Prelude.{Bool, true, false, not, List, [], ◌∷◌, ℕ, zero, suc, ◌+◌, eqb, ltb, length}
+use Rattle.std.specs.Prelude.{Bool, true, false, not, List, [], ◌∷◌, ℕ, zero, suc, eqb, ltb, length}
 use Rattle.words.specs.Reply.{Reply, given, refused, ◌then◌, refuse_if}
 
 -- How many elements are open, and whether something was read.

@@ -1,4 +1,6 @@
 // The calls on records under a table text: it is opened, and the call made on the opened table where that is not refused.
+#![tactic(auto)]
+
 ghost use Rattle.std.specs.Prelude.{length};
 ghost use Rattle.promises.specs.Records.{word_of_record, tree_of_record, record_of_tree, on_text};
 ghost use Rattle.why_no_word.specs.Answer.{Answers};

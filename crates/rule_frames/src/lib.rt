@@ -1,4 +1,6 @@
 // The frame of a rule: what is kept of the rule, and the table with it.
+#![tactic(auto)]
+
 ghost use Rattle.std.specs.Prelude.{◌≡◌, ◌+◌, ◌*◌, ◌^◌, ◌<◌, ◌≤◌, length, get_or};
 ghost use Rattle.std.proofs.Math.Seq.{slice};
 ghost use Rattle.machine.specs.Machine.{Table};

@@ -1,6 +1,8 @@
 // The rules of an opened table by their numbers, and what is kept of a rule for its state and symbol.
 // Each takes any lent numbers and clamps; its twin that ends in `full` reads with no test, where the numbers are as many as an opened table's.
 // Each contract speaks of every table that the numbers mean.
+#![tactic(auto)]
+
 ghost use Rattle.layout.specs.Layout.{MeantBy};
 ghost use Rattle.rule_leaves.specs.Lookup.{Sought};
 

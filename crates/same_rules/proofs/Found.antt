@@ -3,7 +3,7 @@ use mathlib.Core.Path.{◌≡◌, refl, sym, ap, subst, ◌∙◌}
 use mathlib.Core.Bool.{Bool, false}
 use mathlib.Core.List.{List, [], ◌∷◌}
 use mathlib.Core.Option.{Option, none, some, none-ne-some}
-use Prim.Native.Nat.{ℕ, suc, ◌<◌}
+use Prim.Native.Nat.{ℕ, ◌<◌}
 use native.Mathlib.Omega.{arith}
 use native.Mathlib.Decide.{ℕ_discrete}
 use lib.ListN.{length}
@@ -13,7 +13,7 @@ use Rattle.machine.specs.Machine.{Child, Rule, Row, Table, Rising, find}
 use Rattle.machine.specs.Twins.{Rests, Rules}
 use Rattle.machine.proofs.Find.{find_row}
 use Rattle.layout.specs.Layout.{Opened}
-use Rattle.layout.specs.Leaves.{RowAt, row_of, Encodes, Tells, Kept}
+use Rattle.layout.specs.Leaves.{row_of, Encodes, Tells, Kept}
 use Rattle.layout.specs.Kids.{Kids}
 use Rattle.rule_leaves.proofs.Numbered.{row_fits}
 use Rattle.same_words.specs.Words.{Any, RowIn}

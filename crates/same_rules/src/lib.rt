@@ -2,6 +2,8 @@
 // The rules of one state are gone through, and the other's rule for the same symbol is looked up.
 // Rows are compared where the numbers are as many as an opened table's. Nothing else is asked of the lent bytes and numbers:
 // each contract speaks of every two tables that they mean, which may be one.
+#![tactic(auto)]
+
 ghost use Rattle.std.specs.Prelude.{List, ℕ, ◌<◌, ◌≤◌};
 ghost use Rattle.words.specs.Told.{Told};
 ghost use Rattle.machine.specs.Machine.{Row, Table, find};

@@ -1,5 +1,7 @@
 // Comparing the words of two rules of two opened tables, letter by letter. Nothing is asked of the lent bytes and numbers:
 // each contract speaks of every two tables that they mean, which may be one.
+#![tactic(auto)]
+
 ghost use Rattle.std.specs.Prelude.{◌≡◌, List, ◌<◌, length};
 ghost use Rattle.std.proofs.Math.Option.{some};
 ghost use Rattle.words.specs.Told.{Told};

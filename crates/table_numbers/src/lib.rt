@@ -1,5 +1,7 @@
 // Filling the numbers of an opened table: its head, its states' first rules, its rules by their
 // numbers, what is kept for each state and symbol. What the table does not use is not written.
+#![tactic(auto)]
+
 ghost use Rattle.std.specs.Prelude.{◌≡◌, ◌++◌, ℕ, ◌+◌, ◌*◌, ◌/◌, ◌%◌, ◌<◌, ◌≤◌, length, get_or, drop};
 ghost use Rattle.machine.specs.Machine.{Table};
 ghost use Rattle.text.specs.Limits.{symbols_most};

@@ -2,7 +2,7 @@
 use Rattle.std.specs.Prelude.{Bool, true, false, ◌&&◌, ◌||◌, List, [], ◌∷◌, ◌++◌, ℕ, eqb, ltb, length, get_or}
 use Rattle.machine.specs.Machine.{Row, Table}
 use Rattle.text.specs.Limits.{symbols_most, arity_most, states_most, rows_most}
-use Rattle.text.specs.Fields.{Parsed, got, fault, Field, ◌>>=◌, and_then, pure, check, within, below, text, children}
+use Rattle.text.specs.Fields.{Parsed, got, fault, Field, ◌>>=◌, pure, check, within, below, text, children}
 
 -- How far a text has been read: its symbols, or the table with the rules so far, or all of it.
 pub data Stage : Type 0 where

@@ -1,1 +1,3 @@
+#![tactic(auto)]
+
 // Table texts as mathematics: this crate has definitions and laws, and no code.

@@ -15,7 +15,6 @@ use Rattle.table.specs.Opening.{Opens}
 use Rattle.table.specs.declared.Opening.{Opening}
 use Rattle.table.specs.declared.Opening.TheVariants as opening
 use Rattle.why_no_word.specs.declared.WordAnswer.{WordAnswer}
-use Rattle.why_no_word.specs.declared.WordAnswer.TheVariants as found
 use Rattle.why_no_word.specs.Answer.{Answers}
 use Rattle.why_no_word.proofs.Said.{refused_said}
 use Rattle.word_by_text.specs.Refusal.{refusal_of}

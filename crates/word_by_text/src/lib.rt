@@ -1,4 +1,6 @@
 // The word of a tree under a table text: it is opened, and the word is found where that is not refused.
+#![tactic(auto)]
+
 ghost use Rattle.std.specs.Prelude.{◌≡◌, length};
 ghost use Rattle.promises.specs.Word.{word_answer};
 ghost use Rattle.why_no_word.specs.Answer.{Answers};

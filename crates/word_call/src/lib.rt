@@ -1,5 +1,7 @@
 // The word call on an opened table: one measuring loop that leaves a plan, and the writing pass by
 // the plan; where the loop finds no word, `why_no_word` tells why, with number and place.
+#![tactic(auto)]
+
 ghost use Rattle.std.specs.Prelude.{List, ℕ, ◌≤◌, length};
 ghost use Rattle.machine.specs.Machine.{Table};
 ghost use Rattle.layout.specs.Layout.{Opened, Meant};

@@ -1,3 +1,5 @@
+#![tactic(auto)]
+
 // A no: its number and its place. Every refusal, of a text, of a tree, of a room or of a table, is one.
 #[derive(Clone, Copy)]
 pub struct No {

@@ -7,8 +7,7 @@ use Rattle.digits.proofs.put_across.Goals as goal
 
 pub returns : goal.returns
 unfolding hex_of
-returns c =
-    (
-      wrote_as (λ i. c.digit.ensures i ∷ c.digit-2.ensures i ∷ []) (wrote_then c.put-next.ensures c.put.ensures),
-      omega (arith, c.put-next.ensures.end, c.put.ensures.end),
-    )
+returns c = (
+  wrote_as (λ i. c.digit.ensures i ∷ c.digit-2.ensures i ∷ []) (wrote_then c.put-next.ensures c.put.ensures),
+  omega (arith, c.put-next.ensures.end, c.put.ensures.end),
+)

@@ -14,13 +14,23 @@ returns-in_default c =
 
 pub returns-in_default-second : goal.returns-in_default-second
 returns-in_default-second c =
-    let numbered : law.IsNumber c.args.frames.now c.args.at c.args.end c.in-Got.state c.in-Got.u (text.below c.args.states (slice c.args.at c.args.end c.args.frames.now)) = law.got_number c.args.frames.now c.args.at c.args.end _ _ _ c.below-first.result c.in-Got.is c.below-first.ensures in
-    let f = word.fault_word c.args.frames.now c.in-Got.u c.args.end c.in_default-second.field-0 _ c.word-second.result c.in_default-second.is c.word-second.ensures in
-    child.child_fault c.args.frames.now c.args.at c.args.end c.in_default-second.field-0 _ _ (child.after_fault c.args.states _ _ c.in_default-second.field-0 _ (numbered).read f)
-    (child.fault_of_lem c.word-second.result c.number_of-in_default-second.result c.in_default-second.field-0 c.in_default-second.is c.number_of-in_default-second.ensures)
+    let numbered : law.IsNumber c.args.frames.now c.args.at c.args.end c.in-Got.state c.in-Got.u
+    (text.below c.args.states (slice c.args.at c.args.end c.args.frames.now)) = law.got_number c.args.frames.now c.args.at c.args.end _ _ _
+    c.below-first.result c.in-Got.is c.below-first.ensures in
+    let f = word.fault_word c.args.frames.now c.in-Got.u c.args.end c.in_default-second.field-0 _ c.word-second.result c.in_default-second.is
+    c.word-second.ensures in
+    child.child_fault c.args.frames.now c.args.at c.args.end c.in_default-second.field-0 _ _
+    (child.after_fault c.args.states _ _ c.in_default-second.field-0 _ (numbered).read f)
+    (child.fault_of_lem c.word-second.result c.number_of-in_default-second.result c.in_default-second.field-0 c.in_default-second.is
+    c.number_of-in_default-second.ensures)
 
 pub returns : goal.returns
 returns c =
-    let numbered : law.IsNumber c.args.frames.now c.args.at c.args.end c.in-Got.state c.in-Got.u (text.below c.args.states (slice c.args.at c.args.end c.args.frames.now)) = law.got_number c.args.frames.now c.args.at c.args.end _ _ _ c.below-first.result c.in-Got.is c.below-first.ensures in
-    let worded : word.IsWord c.args.frames.now c.in-Got.u c.args.end c.in-Got-second.letters c.in-Got-second.next (text.text (slice c.in-Got.u c.args.end c.args.frames.now)) = word.got_word c.args.frames.now c.in-Got.u c.args.end _ _ _ c.word-second.result c.in-Got-second.is c.word-second.ensures in
-    child.child_got c.args.frames.now c.args.at c.args.end c.args.states c.in-Got.state c.in-Got.u c.in-Got-second.letters c.in-Got-second.next (numbered) (worded)
+    let numbered : law.IsNumber c.args.frames.now c.args.at c.args.end c.in-Got.state c.in-Got.u
+    (text.below c.args.states (slice c.args.at c.args.end c.args.frames.now)) = law.got_number c.args.frames.now c.args.at c.args.end _ _ _
+    c.below-first.result c.in-Got.is c.below-first.ensures in
+    let worded : word.IsWord c.args.frames.now c.in-Got.u c.args.end c.in-Got-second.letters c.in-Got-second.next
+    (text.text (slice c.in-Got.u c.args.end c.args.frames.now)) = word.got_word c.args.frames.now c.in-Got.u c.args.end _ _ _ c.word-second.result
+    c.in-Got-second.is c.word-second.ensures in
+    child.child_got c.args.frames.now c.args.at c.args.end c.args.states c.in-Got.state c.in-Got.u c.in-Got-second.letters c.in-Got-second.next (numbered)
+    (worded)

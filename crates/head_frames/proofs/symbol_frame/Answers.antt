@@ -14,17 +14,22 @@ returns-then-symbols-ge-SYMBOLS c =
 pub returns-in_default : goal.returns-in_default
 returns-in_default c =
     λ R ks d kind.
-    law.number_stops c.args.frames.now R c.args.at c.args.end c.in_default.field-0 _ c.within-arity.result c.fault.result c.in_default.is c.fault.ensures _ c.within-arity.ensures
+    law.number_stops c.args.frames.now R c.args.at c.args.end c.in_default.field-0 _ c.within-arity.result c.fault.result c.in_default.is c.fault.ensures _
+    c.within-arity.ensures
     (symbol.refuse_arity d c.args.at c.args.end c.if-symbols-ge-SYMBOLS.false c.in_default.field-0)
 
 pub returns-then-next-end : goal.returns-then-next-end
 returns-then-next-end c =
-    let arity_read : field.IsNumber c.args.frames.now c.args.at c.args.end c.in-Got.value c.in-Got.next (text.within 0 4 (slice c.args.at c.args.end c.args.frames.now)) = field.got_number c.args.frames.now c.args.at c.args.end _ _ _ c.within-arity.result c.in-Got.is c.within-arity.ensures in
+    let arity_read : field.IsNumber c.args.frames.now c.args.at c.args.end c.in-Got.value c.in-Got.next
+    (text.within 0 4 (slice c.args.at c.args.end c.args.frames.now)) = field.got_number c.args.frames.now c.args.at c.args.end _ _ _ c.within-arity.result
+    c.in-Got.is c.within-arity.ensures in
     λ R ks d kind. symbol.symbol_over d c.args.at c.args.end c.if-symbols-ge-SYMBOLS.false (arity_read) R c.if-next-end.true c.requires.2
 
 pub returns : goal.returns
 returns c =
-    let arity_read : field.IsNumber c.args.frames.now c.args.at c.args.end c.in-Got.value c.in-Got.next (text.within 0 4 (slice c.args.at c.args.end c.args.frames.now)) = field.got_number c.args.frames.now c.args.at c.args.end _ _ _ c.within-arity.result c.in-Got.is c.within-arity.ensures in
+    let arity_read : field.IsNumber c.args.frames.now c.args.at c.args.end c.in-Got.value c.in-Got.next
+    (text.within 0 4 (slice c.args.at c.args.end c.args.frames.now)) = field.got_number c.args.frames.now c.args.at c.args.end _ _ _ c.within-arity.result
+    c.in-Got.is c.within-arity.ensures in
     λ R ks d kind.
     symbol.symbol_next d c.args.at c.args.end c.if-symbols-ge-SYMBOLS.false (arity_read) c.if-next-end.false c.requires.0 c.requires.2 kind
     R _ refl refl refl

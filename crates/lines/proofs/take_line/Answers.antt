@@ -1,6 +1,6 @@
 -- `take_line` meets its contract. The loop's invariant: the first n pairs are decoded. The measure is what is left of the pairs. Assumes nothing.
 use mathlib.Core.List.{List}
-use Prim.Native.Nat.{ℕ, ◌+◌, ◌-◌, ◌*◌}
+use Prim.Native.Nat.{ℕ, ◌+◌, ◌*◌}
 use native.Mathlib.Omega.{arith}
 use lib.ListN.{get_or}
 use Rattle.lines.proofs.Scan as law
@@ -11,8 +11,10 @@ pub returns-then-h-gt15 : goal.returns-then-h-gt15
 returns-then-h-gt15 c =
     let T : List ℕ = c.args.text.now in
     let i : ℕ = c.args.at + 2 * c.loop-n.n in
-    let v = value_none c.digit_values-values.result (get_or T i 0) c.digit_values-values.ensures (omega (arith, c.shared_slice_known-in-loop-n-1.given i)) c.if-h-gt15.true in
-    law.decoded_ended c.requires.used_bound.0 c.requires.at_in_bounds.1 c.requires.used_bound.1 c.loop-n.invariant (law.scan_first T i (omega arith) v) c.ended.result c.ended.ensures
+    let v = value_none c.digit_values-values.result (get_or T i 0) c.digit_values-values.ensures (omega (arith, c.shared_slice_known-in-loop-n-1.given i))
+    c.if-h-gt15.true in
+    law.decoded_ended c.requires.used_bound.0 c.requires.at_in_bounds.1 c.requires.used_bound.1 c.loop-n.invariant (law.scan_first T i (omega arith) v)
+    c.ended.result c.ended.ensures
 
 pub returns-then-l-gt15 : goal.returns-then-l-gt15
 returns-then-l-gt15 c =
@@ -20,8 +22,10 @@ returns-then-l-gt15 c =
     let i : ℕ = c.args.at + 2 * c.loop-n.n in
     let W : List ℕ = c.digit_values-values.result in
     let h = value_digit W (get_or T i 0) c.digit_values-values.ensures (omega (arith, c.shared_slice_known-in-loop-n-1.given i)) c.if-h-gt15.false in
-    let v = value_none W (get_or T (i + 1) 0) c.digit_values-values.ensures (omega (arith, c.shared_slice_known-in-loop-n-2-1.given (i + 1))) c.if-l-gt15.true in
-    law.decoded_bad c.requires.used_bound.0 c.requires.at_in_bounds.1 c.requires.used_bound.1 c.loop-n.invariant (law.scan_second T i (get_or W (get_or T i 0) 0) (omega arith) h v)
+    let v = value_none W (get_or T (i + 1) 0) c.digit_values-values.ensures (omega (arith, c.shared_slice_known-in-loop-n-2-1.given (i + 1))) c.if-l-gt15.true
+    in
+    law.decoded_bad c.requires.used_bound.0 c.requires.at_in_bounds.1 c.requires.used_bound.1 c.loop-n.invariant
+    (law.scan_second T i (get_or W (get_or T i 0) 0) (omega arith) h v)
 
 pub loop-n-preserved : goal.loop-n-preserved
 loop-n-preserved c =
@@ -29,8 +33,10 @@ loop-n-preserved c =
     let i : ℕ = c.args.at + 2 * c.loop-n.n in
     let W : List ℕ = c.digit_values-values.result in
     let h = value_digit W (get_or T i 0) c.digit_values-values.ensures (omega (arith, c.shared_slice_known-in-loop-n-1.given i)) c.if-h-gt15.false in
-    let v = value_digit W (get_or T (i + 1) 0) c.digit_values-values.ensures (omega (arith, c.shared_slice_known-in-loop-n-2-1.given (i + 1))) c.if-l-gt15.false in
-    law.decoded_more c.requires.used_bound.0 c.requires.at_in_bounds.1 c.requires.used_bound.1 c.loop-n.invariant _ (get_or W (get_or T i 0) 0) (get_or W (get_or T (i + 1) 0) 0)
+    let v = value_digit W (get_or T (i + 1) 0) c.digit_values-values.ensures (omega (arith, c.shared_slice_known-in-loop-n-2-1.given (i + 1))) c.if-l-gt15.false
+    in
+    law.decoded_more c.requires.used_bound.0 c.requires.at_in_bounds.1 c.requires.used_bound.1 c.loop-n.invariant _ (get_or W (get_or T i 0) 0)
+    (get_or W (get_or T (i + 1) 0) 0)
     (omega arith) (omega arith) h v
 
 pub returns : goal.returns

@@ -2,7 +2,6 @@
 use mathlib.Core.Path.{ap}
 use native.Mathlib.Omega.{arith}
 use Rattle.table_numbers.proofs.Filling.{filled}
-use borrow.Author.Rules.{rules}
 use Rattle.table_numbers.proofs.fill.Goals as goal
 
 pub returns : goal.returns

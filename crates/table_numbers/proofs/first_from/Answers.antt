@@ -1,15 +1,15 @@
 -- `first_from` meets its contract. The loop's invariant: the rules before the i-th are passed. The measure is what is left. Assumes nothing.
 use native.Mathlib.Omega.{arith}
-use Prim.Native.Nat.{◌*◌, ◌-◌, ◌/◌, ◌%◌, ◌<◌, ◌≤◌}
+use Prim.Native.Nat.{◌*◌, ◌/◌, ◌%◌, ◌<◌, ◌≤◌}
 use mathlib.Core.Path.{◌∙◌}
 use lib.ListN.{get_or}
 use Rattle.table_numbers.proofs.FirstRules.{passed_all, passed_to, passed_one}
-use borrow.Author.Rules.{rules}
 use Rattle.table_numbers.proofs.first_from.Goals as goal
 
 pub returns-then-q-state_of-clause-rules_passed : goal.returns-then-q-state_of-clause-rules_passed
 returns-then-q-state_of-clause-rules_passed c =
-    let s : c.args.q ≤ get_or c.args.rules.now (2 * c.loop-i.i) 0 / 8388608 % 64 = omega (arith, c.if-q-state_of.true, c.state_of.ensures) in λ M rules. record { below = c.loop-i.invariant.2 M rules; none = passed_to rules _ c.loop-i.i c.loop-i-test.true s }
+    let s : c.args.q ≤ get_or c.args.rules.now (2 * c.loop-i.i) 0 / 8388608 % 64 = omega (arith, c.if-q-state_of.true, c.state_of.ensures) in λ M rules. record
+    { below = c.loop-i.invariant.2 M rules; none = passed_to rules _ c.loop-i.i c.loop-i-test.true s }
 
 pub loop-i-preserved : goal.loop-i-preserved
 loop-i-preserved c =

@@ -5,7 +5,6 @@ use lib.ListN.{drop}
 use Rattle.machine.specs.Machine.{Table}
 use Rattle.layout.specs.Layout.{rows_before}
 use Rattle.table_numbers.specs.Storing.{RulesNoted}
-use borrow.Author.Rules.{rules}
 use Rattle.table_numbers.proofs.first_from.Given as goal
 
 abbrev pub invariant-loop-i : goal.invariant-loop-i

@@ -1,10 +1,9 @@
 -- `put_entries` meets its contract. The loop's invariant: what is kept of the rules from the i-th on is put. The measure is i. Assumes nothing.
-use Prim.Native.Nat.{ℕ, ◌+◌, ◌*◌, ◌-◌, ◌<◌, ◌≤◌}
+use Prim.Native.Nat.{ℕ, ◌+◌, ◌*◌, ◌<◌, ◌≤◌}
 use mathlib.Core.Path.{◌≡◌}
 use lib.ListN.{length, get_or}
 use Rattle.machine.specs.Machine.{Table}
 use Rattle.table_numbers.specs.Storing.{NumbersPut, RulesNoted, entries_from}
-use borrow.Author.Rules.{rules}
 use Rattle.table_numbers.proofs.put_entries.Given as goal
 
 abbrev pub invariant-loop-i : goal.invariant-loop-i

@@ -5,12 +5,12 @@ use lib.ListN.{length}
 use Rattle.machine.specs.Machine.{Table}
 use Rattle.table_numbers.specs.Storing.{RulesNoted}
 use Rattle.table_numbers.proofs.FirstRules.{FirstsSo}
-use borrow.Author.Rules.{rules}
 use Rattle.table_numbers.proofs.put_firsts.Given as goal
 
 abbrev pub invariant-loop-q : goal.invariant-loop-q
 invariant-loop-q l =
-    (l.q ≤ l.states + 1) × (l.first ≤ l.n) × (length l.numbers ≡ 4688) × ((M : Table) → RulesNoted l.rules l.n M → FirstsSo M l.initial.numbers l.numbers l.q l.first)
+    (l.q ≤ l.states + 1) × (l.first ≤ l.n) × (length l.numbers ≡ 4688) ×
+    ((M : Table) → RulesNoted l.rules l.n M → FirstsSo M l.initial.numbers l.numbers l.q l.first)
 
 abbrev pub decreases-loop-q : goal.decreases-loop-q
 decreases-loop-q l =

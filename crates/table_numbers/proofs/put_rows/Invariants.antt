@@ -2,7 +2,6 @@
 use Prim.Native.Nat.{◌*◌, ◌-◌, ◌≤◌}
 use lib.ListN.{get_or}
 use Rattle.table_numbers.specs.Storing.{NumbersPut}
-use borrow.Author.Rules.{rules}
 use Rattle.table_numbers.proofs.put_rows.Given as goal
 
 abbrev pub invariant-loop-i : goal.invariant-loop-i

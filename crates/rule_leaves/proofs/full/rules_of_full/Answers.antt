@@ -15,6 +15,6 @@ returns-then-numbers-q-clause-meant_by c =
 pub returns-clause-meant_by : goal.returns-clause-meant_by
 returns-clause-meant_by c =
     λ F M o.
-          let low : c.args.q < M.states = omega (arith, o.head.states, c.if-numbers-q.false) in
-          range M o.limited.made.rising c.args.q c.first_of_full.result c.first_of_full-2.result (c.first_of_full.ensures.meant_by F M o (omega (arith, low)))
-          (c.first_of_full-2.ensures.meant_by F M o (omega (arith, low)))
+    let low : c.args.q < M.states = omega (arith, o.head.states, c.if-numbers-q.false) in
+    range M o.limited.made.rising c.args.q c.first_of_full.result c.first_of_full-2.result (c.first_of_full.ensures.meant_by F M o (omega (arith, low)))
+    (c.first_of_full-2.ensures.meant_by F M o (omega (arith, low)))

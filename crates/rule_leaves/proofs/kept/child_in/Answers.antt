@@ -8,5 +8,5 @@ use Rattle.rule_leaves.proofs.kept.child_in.Goals as goal
 pub returns-clause-by_index : goal.returns-clause-by_index
 returns-clause-by_index c =
     let one_less : suc (c.args.j - 1) ≡ c.args.j = omega arith in λ i r h l.
-          c.later_in.ensures.by_index i r (c.args.j - 1) h (omega (arith, c.kids_in-kids.ensures.by_index i r h, l, one_less))
-          ∙ ap (λ (k : ℕ). state_no r.rest k) one_less
+    c.later_in.ensures.by_index i r (c.args.j - 1) h (omega (arith, c.kids_in-kids.ensures.by_index i r h, l, one_less))
+    ∙ ap (λ (k : ℕ). state_no r.rest k) one_less

@@ -15,4 +15,4 @@ returns-in-1-clause-by_index c =
 pub returns-in_default-clause-by_index : goal.returns-in_default-clause-by_index
 returns-in_default-clause-by_index c =
     λ i r j h e.
-          (encodes_unpacks h).third_last ∙ sym (third_last_state r.rest j c.args.n h.modest.kids h.modest.rest (omega arith) (omega (arith, e)))
+    (encodes_unpacks h).third_last ∙ sym (third_last_state r.rest j c.args.n h.modest.kids h.modest.rest (omega arith) (omega (arith, e)))

@@ -11,6 +11,6 @@ returns-then-states-q-clause-meant_by c =
 pub returns-clause-meant_by : goal.returns-clause-meant_by
 returns-clause-meant_by c =
     λ F M o.
-          let low : c.args.q < M.states = omega (arith, c.states.ensures.meant_by F M o, c.if-states-q.false) in
-          range M o.limited.made.rising c.args.q c.first_of.result c.first_of-2.result (c.first_of.ensures.meant_by F M o (omega (arith, low)))
-          (c.first_of-2.ensures.meant_by F M o (omega (arith, low)))
+    let low : c.args.q < M.states = omega (arith, c.states.ensures.meant_by F M o, c.if-states-q.false) in
+    range M o.limited.made.rising c.args.q c.first_of.result c.first_of-2.result (c.first_of.ensures.meant_by F M o (omega (arith, low)))
+    (c.first_of-2.ensures.meant_by F M o (omega (arith, low)))

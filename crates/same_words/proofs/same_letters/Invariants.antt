@@ -1,0 +1,13 @@
+-- `same_letters` meets its contract: the letters passed are equal.
+use mathlib.Core.Path.{◌≡◌}
+use Prim.Native.Nat.{ℕ, ◌-◌, ◌<◌, ◌≤◌}
+use lib.ListN.{length, get_or}
+use Rattle.same_words.proofs.same_letters.Given as goal
+
+abbrev pub invariant-loop-i : goal.invariant-loop-i
+invariant-loop-i l =
+    (l.i ≤ length l.a) × (length l.a ≡ length l.b) × ((k : ℕ) → k < l.i → get_or l.a k 0 ≡ get_or l.b k 0)
+
+abbrev pub decreases-loop-i : goal.decreases-loop-i
+decreases-loop-i l =
+    length l.a - l.i
