@@ -5,7 +5,7 @@ use Prim.Native.Nat.{ℕ, ◌<◌, ◌≤◌}
 use native.Mathlib.Omega.{arith}
 use borrow.Author.Tests.{eqb-true, eq-eqb, lt-ltb, le-ltb}
 use lib.ListN.{length, drop, get_or}
-use Rattle.words.specs.Reply.{Reply, given, no_at, refused, mapped}
+use Rattle.words.specs.Reply.{given, no_at, refused, mapped}
 use Rattle.machine.specs.Machine.{Table}
 use Rattle.machine.specs.Earliest.{Earliest}
 use Rattle.machine.specs.Form.{Test, Decides, IsForm, form_of}

@@ -5,7 +5,6 @@ use Prim.Native.Nat.{ℕ}
 use lib.ListN.{length}
 use Rattle.words.specs.declared.No.{No}
 use Rattle.words.specs.Reply.{given, refusal}
-use Rattle.machine.specs.Machine.{Table}
 use Rattle.machine.specs.Earliest.{Earliest}
 use Rattle.text.specs.Writing.{write_table}
 use Rattle.promises.specs.Room.{into}
