@@ -1,5 +1,5 @@
 -- What the answers of the comparison say, in the paper's numbers. Definitions only.
-use Rattle.std.specs.Prelude.{◌≡◌, Bool, ℕ, zero, suc}
+use Rattle.std.specs.Prelude.{◌≡◌, Bool, zero, suc}
 use Rattle.std.proofs.Math.Option.{none, some}
 use Rattle.words.specs.Reply.{no_at}
 use Rattle.words.specs.Told.{Told}
