@@ -246,7 +246,8 @@ twenty_four text bs room = (λ h. there h.0 ((text_refused record_of_tree text b
         (then_refused (last_symbol M.arities) _ 24 p z)
 
     there : (p : ℕ)
-        → (read_table text ≡ refused 24 p) ⊎ ((M : Table) × (read_table text ≡ given M) × (on_table record_of_tree M bs room ≡ refused 24 p)) → ImageOfNone text bs
+        → (read_table text ≡ refused 24 p) ⊎ ((M : Table) × (read_table text ≡ given M) × (on_table record_of_tree M bs room ≡ refused 24 p)) → ImageOfNone text
+        bs
     there p (inl e) = absurd (omega (arith, text-refusals text 24 p e))
     there p (inr h) =
         ⊎_elim (λ z. on_list h.0 p h.1 z) (λ l. absurd (omega (arith, l.number)))

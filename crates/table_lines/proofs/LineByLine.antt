@@ -33,7 +33,8 @@ pub record ReadUpTo (T F R : List ℕ) (st : Stage) (at : ℕ) : Type 0 where
   pub rules : length R ≡ 1024
 
 -- Nothing is read yet.
-pub up_to_begin : (T F R : List ℕ) (st : Stage) → 1 ≤ length T → length T ≤ text_most → length F ≡ frames_size → length R ≡ 1024 → Staged F R st (text.symbols [])
+pub up_to_begin : (T F R : List ℕ) (st : Stage) → 1 ≤ length T → length T ≤ text_most → length F ≡ frames_size → length R ≡ 1024 → Staged F R st
+    (text.symbols [])
     → st.used ≡ 0 → ReadUpTo T F R st 0
 up_to_begin T F R st h k b i d e =
     record { stage = text.symbols []; staged = d; rest = read_fit T h k; inside = omega arith; room = omega arith; bytes = b; rules = i }

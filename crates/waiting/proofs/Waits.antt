@@ -37,7 +37,8 @@ stored W n i j k a b c x y z l =
       kept = λ o m. get_or-set_other (set (set W i a) j b) k o c 0 (omega arith) ∙ get_or-set_other (set W i a) j o b 0 (omega arith)
           ∙ get_or-set_other W i o a 0 (omega arith);
       one = rw (← x)
-          (get_or-set_other (set (set W i a) j b) k i c 0 (omega arith) ∙ get_or-set_other (set W i a) j i b 0 (omega arith) ∙ get_or-set_same W i a 0 (omega arith));
+          (get_or-set_other (set (set W i a) j b) k i c 0 (omega arith) ∙ get_or-set_other (set W i a) j i b 0 (omega arith) ∙ get_or-set_same W i a 0
+          (omega arith));
       two = rw (← y) (get_or-set_other (set (set W i a) j b) k j c 0 (omega arith) ∙ get_or-set_same (set W i a) j b 0 (omega arith));
       three = rw (← z) (get_or-set_same (set (set W i a) j b) k c 0 (omega arith));
     }

@@ -1,5 +1,34 @@
 -- Pieces of the lent bytes, and words that are put into a room behind what is there.
-use Rattle.std.proofs.Common.{◌≡◌, ℕ, ◌+◌, ◌-◌, ◌<◌, ◌≤◌, List, ◌++◌, length, get_or, take, drop, set, sym, refl, ap, ◌∙◌, append_assoc, add-one, arith, length-drop, length-take-le, get_or-drop, take-suc, take-take, drop-drop, take-suc-set, take-add}
+use Rattle.std.proofs.Common.{
+  ◌≡◌,
+  ℕ,
+  ◌+◌,
+  ◌-◌,
+  ◌<◌,
+  ◌≤◌,
+  List,
+  ◌++◌,
+  length,
+  get_or,
+  take,
+  drop,
+  set,
+  sym,
+  refl,
+  ap,
+  ◌∙◌,
+  append_assoc,
+  add-one,
+  arith,
+  length-drop,
+  length-take-le,
+  get_or-drop,
+  take-suc,
+  take-take,
+  drop-drop,
+  take-suc-set,
+  take-add,
+}
 use lib.Seq.{take-paste, take-append-add, take-append-le}
 use Rattle.words.specs.Word.{Word}
 use Rattle.machine.specs.Machine.{Child}

@@ -8,7 +8,8 @@ use Rattle.checks.proofs.least_state.Given as goal
 
 abbrev pub invariant-loop-q : goal.invariant-loop-q
 invariant-loop-q l =
-    ((M : Table) → least (passes_at l.number M l.marks l.left l.right) (l.count - l.q) l.q ≡ least (passes_at l.number M l.marks l.left l.right) l.count 0) × (l.q ≤ l.count)
+    ((M : Table) → least (passes_at l.number M l.marks l.left l.right) (l.count - l.q) l.q ≡ least (passes_at l.number M l.marks l.left l.right) l.count 0) ×
+    (l.q ≤ l.count)
 
 abbrev pub decreases-loop-q : goal.decreases-loop-q
 decreases-loop-q l =

@@ -8,7 +8,8 @@ use Rattle.class_round.proofs.pick.Given as goal
 
 abbrev pub invariant-loop-r : goal.invariant-loop-r
 invariant-loop-r l =
-    (l.r ≤ l.q) × ((M : Table) (n : ℕ) → Opened l.frames l.numbers M → n ≡ M.states → l.q < n → RoundBegun l.first M n l.rep → (p : ℕ) → p < l.r → Leads M l.rep l.next l.q p → ⊥)
+    (l.r ≤ l.q) × ((M : Table) (n : ℕ) → Opened l.frames l.numbers M → n ≡ M.states → l.q < n → RoundBegun l.first M n l.rep → (p : ℕ) → p < l.r → Leads M l.rep
+    l.next l.q p → ⊥)
 
 abbrev pub decreases-loop-r : goal.decreases-loop-r
 decreases-loop-r l =

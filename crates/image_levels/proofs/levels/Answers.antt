@@ -31,4 +31,7 @@ pub returns : goal.returns
 returns c =
     λ ar a r s h n e l.
     climbing_fit c.loop-i.invariant (search rules) ar a r s h n e l c.if-left-eq0-2.false
-    (elim c.loop-i-test.branch [ else-loop-i-test w ↦ w.loop-i-test.false | then-loop-i-test+then-left-eq0 w ↦ absurd (c.if-left-eq0-2.false w.if-left-eq0.true) ])
+    (elim c.loop-i-test.branch [
+      | else-loop-i-test w ↦ w.loop-i-test.false
+      | then-loop-i-test+then-left-eq0 w ↦ absurd (c.if-left-eq0-2.false w.if-left-eq0.true)
+    ])

@@ -15,7 +15,8 @@ use Rattle.same_words.proofs.words_from.Given as goal
 abbrev pub invariant-loop-left : goal.invariant-loop-left
 invariant-loop-left l =
     (l.a < frames_size) × (l.b < frames_size) × ((u v : Word) (cs ds : List Child) → length l.frames ≡ frames_size → length l.frames2 ≡ frames_size
-    → Spot l.frames u cs l.p → Spot l.frames2 v ds l.s → l.kids ≡ length cs → l.kids ≡ length ds → WordsLeft l.frames l.frames2 l.a l.b l.left ((u ≡ v) × Rests Any cs ds))
+    → Spot l.frames u cs l.p → Spot l.frames2 v ds l.s → l.kids ≡ length cs → l.kids ≡ length ds → WordsLeft l.frames l.frames2 l.a l.b l.left
+    ((u ≡ v) × Rests Any cs ds))
 
 abbrev pub decreases-loop-left : goal.decreases-loop-left
 decreases-loop-left l =

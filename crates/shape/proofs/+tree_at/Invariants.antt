@@ -14,7 +14,8 @@ use Rattle.shape.proofs.+tree_at.Given as goal
 abbrev pub invariant-loop-left : goal.invariant-loop-left
 invariant-loop-left l =
     ((I : List ℕ) (M : Table) → Opened l.frames I M → l.symbols ≡ length M.arities → (s : Shape)
-    → Shaped (forest_at (tree_at (l.levels - 1) M.arities) l.left l.next (drop l.next l.tree)) s → Shaped (tree_at l.levels M.arities l.at (drop l.at l.tree)) s)
+    → Shaped (forest_at (tree_at (l.levels - 1) M.arities) l.left l.next (drop l.next l.tree)) s → Shaped (tree_at l.levels M.arities l.at (drop l.at l.tree))
+    s)
     × (l.next ≤ length l.tree)
 
 abbrev pub decreases-loop-left : goal.decreases-loop-left

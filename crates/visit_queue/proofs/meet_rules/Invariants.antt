@@ -15,7 +15,8 @@ use Rattle.visit_queue.proofs.meet_rules.Given as goal
 abbrev pub invariant-loop-i : goal.invariant-loop-i
 invariant-loop-i l =
     (l.n ≤ states_most) × (length l.order ≡ length l.initial.order) × (length l.known ≡ length l.initial.known)
-    × ((F : List ℕ) (M : Table) (b : VisitQueue) → Opened F l.numbers M → StatesMet l.rep (child_states (slice l.i l.to M.rows)) (queue_of l.order l.known l.n) b
+    × ((F : List ℕ) (M : Table) (b : VisitQueue) → Opened F l.numbers M → StatesMet l.rep (child_states (slice l.i l.to M.rows)) (queue_of l.order l.known l.n)
+    b
     → StatesMet l.rep (kids M l.q) (queue_of l.initial.order l.initial.known l.count) b)
 
 abbrev pub decreases-loop-i : goal.decreases-loop-i

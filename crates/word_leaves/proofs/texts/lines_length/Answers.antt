@@ -13,20 +13,22 @@ pub returns-then-to-from-clause-meant_by : goal.returns-then-to-from-clause-mean
 unfolding row_lines
 returns-then-to-from-clause-meant_by c =
     λ F M o h l.
-          let e : c.args.from ≡ c.args.to = omega arith in
-          sym (ap (λ (k : ℕ). length (row_lines (slice k c.args.to M.rows))) e ∙ ap (λ (rows : List Row). length (row_lines rows))
-          (slice_empty c.args.to M.rows))
+    let e : c.args.from ≡ c.args.to = omega arith in
+    sym (ap (λ (k : ℕ). length (row_lines (slice k c.args.to M.rows))) e ∙ ap (λ (rows : List Row). length (row_lines rows))
+    (slice_empty c.args.to M.rows))
 
 pub returns-clause-meant_by : goal.returns-clause-meant_by
 returns-clause-meant_by c =
     λ F M o h l.
-          let first = index_row M.rows c.args.from (omega arith) in
-          let last = index_row M.rows (c.args.to - 1) (omega arith) in
-          omega (
-            arith,
-            c.without.ensures,
-            length_row_lines (slice c.args.from c.args.to M.rows),
-            length-slice c.args.from c.args.to M.rows l,
-            frames_between M.rows (length (head_frames M)) c.args.from c.args.to c.place-first.result c.place.result c.text_length.result last.0 (omega arith) last.1
-                (c.place-first.ensures.by_index F M first.0 o first.1) (c.place.ensures.by_index F M last.0 o last.1) (c.text_length.ensures.row_meant F M last.0 o last.1),
-          )
+    let first = index_row M.rows c.args.from (omega arith) in
+    let last = index_row M.rows (c.args.to - 1) (omega arith) in
+    omega (
+      arith,
+      c.without.ensures,
+      length_row_lines (slice c.args.from c.args.to M.rows),
+      length-slice c.args.from c.args.to M.rows l,
+      frames_between M.rows (length (head_frames M)) c.args.from c.args.to c.place-first.result c.place.result c.text_length.result last.0 (omega arith)
+          last.1
+          (c.place-first.ensures.by_index F M first.0 o first.1) (c.place.ensures.by_index F M last.0 o last.1)
+          (c.text_length.ensures.row_meant F M last.0 o last.1),
+    )

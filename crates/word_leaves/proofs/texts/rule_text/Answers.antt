@@ -5,8 +5,13 @@ use Rattle.word_leaves.proofs.texts.rule_text.Goals as goal
 
 pub returns-then-frames-end-clause-result_value : goal.returns-then-frames-end-clause-result_value
 returns-then-frames-end-clause-result_value c =
-    λ M r o e. absurd (omega (arith, text_ends c.args.frames.now c.spot_of-from.result c.text_length.result r.rule (c.spot_of-from.ensures.by_index c.args.frames.now M r o e) (c.text_length.ensures.row_meant c.args.frames.now M r o e)))
+    λ M r o e. absurd (omega (
+      arith,
+      text_ends c.args.frames.now c.spot_of-from.result c.text_length.result r.rule
+          (c.spot_of-from.ensures.by_index c.args.frames.now M r o e) (c.text_length.ensures.row_meant c.args.frames.now M r o e),
+    ))
 
 pub returns-clause-result_value : goal.returns-clause-result_value
 returns-clause-result_value c =
-    λ M r o e. text_whole c.args.frames.now c.spot_of-from.result c.text_length.result r.rule (c.spot_of-from.ensures.by_index c.args.frames.now M r o e) (c.text_length.ensures.row_meant c.args.frames.now M r o e)
+    λ M r o e. text_whole c.args.frames.now c.spot_of-from.result c.text_length.result r.rule (c.spot_of-from.ensures.by_index c.args.frames.now M r o e)
+    (c.text_length.ensures.row_meant c.args.frames.now M r o e)
