@@ -1,5 +1,5 @@
 -- Laws of writing into a room, piece by piece:
---   Room    wrote-none, wrote-then, wrote-as, wrote_byte: pieces behind pieces. wrote_filled: what fits comes first, and the rest of the room is unchanged.
+--   Room    wrote_none, wrote_then, wrote_as, wrote_byte: pieces behind pieces. wrote_filled: what fits comes first, and the rest of the room is unchanged.
 --           wrote_outside, wrote_digits, hex_more, hex_all, digit_plain: bytes as digits
 --   Over    hex_over: a byte's digits over another's
 pub mod Room

@@ -1,5 +1,5 @@
 -- The laws of the ends of words:
---   Sides      end_from, end-empty: the end of a word at a side. end-none, end_left, end_right: by its index
+--   Sides      end_from, end_empty: the end of a word at a side. end_none, end_left, end_right: by its index
 --              empty_no_common, letters_no_common, letter_common: common prefixes and suffixes by ends
 --   Values     join_shown, beside_shown, alone_shown; join_allows, beside_fits, alone_allows: what shows a summary, and what fits it
 --   Order      gather, gathered: a rule's summary gathered from left to right at either side

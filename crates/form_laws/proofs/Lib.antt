@@ -3,14 +3,14 @@
 --   Lists      all members of a list, members with those behind them, two lists side by side
 --   Pigeon     pigeonhole: different numbers below n are at most n
 --   Number     number_here, number_there: step by step
---              number-same, number_fresh, number-append, number-at: the number of a state in a list
+--              number_same, number_fresh, number_append, number_at: the number of a state in a list
 --   Meet       meet_old, meet_new: step by step. meet_grown, meet_apart, meet_known: meeting the child states of a state
 --   Rows       rows_of_own, rows_of_past: step by step. rows_of_all, rows_of_state, rows_of_ordered, child_states_of, kids_inside:
 --              the rows of a state and their child states
 --   Visit      visited_start, visited_step, visited_length: what holds of the list at every step of the visit
 --   Order      visit_next, visit_done: step by step. order_listed, order_enough, order_length: the visit takes all that it lists
---              listed_inside, listed_apart, order_number, order-same: what is listed
---   Renumber   find-first, find_past_state, find_past_symbol: step by step
+--              listed_inside, listed_apart, order_number, order_same: what is listed
+--   Renumber   find_first, find_past_state, find_past_symbol: step by step
 --              find_renumbered: number i has the rules of the i-th listed state
 --   Reach      listed_reached: the listed states are reached. reached_known: all that are reached are, where the test tells
 --              all states apart

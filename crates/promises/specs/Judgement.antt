@@ -2,7 +2,7 @@
 use Rattle.std.specs.Prelude.{◌≡◌, List, ℕ}
 use Rattle.words.specs.Reply.{Reply, given, refusal}
 use Rattle.machine.specs.Machine.{Table}
-use Rattle.machine.specs.Verdict.{Verdict, late_as, Judged}
+use Rattle.machine.specs.Verdict.{Verdict, earliest, late_as, Judged}
 use Rattle.text.specs.Reading.{read_table}
 
 -- v is the verdict on the table that was read, or the refusal of the reading.

@@ -61,7 +61,7 @@ module _ (C D : List ℕ) where
     abbrev All : Type 0
     All = Kids (Alike C D) a.rest b.rest
 
-    -- The states of the first children are alike, of the last, of the second_last, of the third_last.
+    -- The states of the first children are alike, of the last, of the second-last, of the third-last.
     abbrev First : Type 0
     First = Alike C D (x / 2097152 % 64) (y / 2097152 % 64)
 
