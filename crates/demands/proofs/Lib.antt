@@ -16,7 +16,7 @@
 --    It is refused exactly for the listed causes (specs/Words, `WordRefused`): Words.word_turned_down. By number: Words.text_published
 --    (1 to 5), Words.shape_published (6, 7, 8, 10, 11), Words.nine_published, Words.twelve_published.
 --    The place of 9 is the first position without a rule, the state of each position being that of the way from the root (crate trees,
---    specs/Standing): crate trees, First.lacks_first, First.first-one, First.first_none, Output.output_none, Output.output_some.
+--    specs/Standing): crate trees, First.lacks_first, First.first_one, First.first_none, Output.output_none, Output.output_some.
 --    Earliest is said exactly when the table is trimmed with E1 and E2: crate promises, Judgement.earliest_published.
 --
 -- 3. (a) The form is an earliest table and sends every finite tree where the original does: Forms.form_earliest_same.
@@ -28,10 +28,10 @@
 --    Behind these: Theorem A in crate machine, Agreement.agree; the form as mathematics in crate form_laws, Forms.forms_agree.
 --
 -- W1. Records from the ingest desks. What is asked stands in crate records, specs; what each call answers in crate promises, specs/Records.
---    Reading a stream and writing it give each other: crate records, Sound.read_sound, Complete.read-back. A stream is refused with 21, 22
+--    Reading a stream and writing it give each other: crate records, Sound.read_sound, Complete.read_back. A stream is refused with 21, 22
 --    or 23 exactly for its cause: crate records, Refusals.read_refused; a symbol list with 20 at its first wrong index: Symbols.last_refused.
 --    The preorder of an image is the stream with each ff replaced by the last symbol, and one more: crate records, Image.image_preorder.
---    The image is one-to-one: crate records, Back.image-injective. 24 is told exactly for trees that are no record's image:
+--    The image is one-to-one: crate records, Back.image_injective. 24 is told exactly for trees that are no record's image:
 --    Records.twenty_four; its place: crate records, Back.back_refused.
 --    What the tree call writes the record call turns back into the same bytes, and the other way round: Records.tree_turned_back,
 --    Records.record_turned_back. The tree is given exactly for images within the limits: Records.record_tree_given.

@@ -252,7 +252,8 @@ form_zero text R R' h =
 pub compare_zero : {E : List ℕ} (one two : List ℕ) → ComparedLinked one two 0 E → ComparisonAnswer one two paper.same ⊎ ComparisonAnswer one two paper.different
 compare_zero one two h = go h.comparison h.answer h.told
   where
-    go : (c : Comparison) → ComparisonAnswer one two c → 0 ≡ comparison_number c → ComparisonAnswer one two paper.same ⊎ ComparisonAnswer one two paper.different
+    go : (c : Comparison) → ComparisonAnswer one two c → 0 ≡ comparison_number c → ComparisonAnswer one two paper.same ⊎ ComparisonAnswer one two
+        paper.different
     go paper.same a e = inl a
     go paper.different a e = inr a
     go (paper.refusal t x) a e = absurd (omega (arith, comparison_numbered one two t x a))
