@@ -1,4 +1,6 @@
 // A line of lowercase hexadecimal, taken as it comes in pieces, decoded into lent bytes.
+#![tactic(auto)]
+
 ghost use Rattle.std.specs.Prelude.{◌≡◌, List, [], ◌∷◌, ◌++◌, ℕ, ◌*◌, ◌+◌, ◌<◌, take};
 ghost use Rattle.words.specs.Told.{Told};
 ghost use Rattle.hexline.specs.SoFar.{Value, ByteStored, LineHeld, WholeBytes, UpToFeed};
