@@ -13,7 +13,7 @@ use std::time::Clock;
 use table::Opening;
 
 // The line so far, whether there may be more to read, and who looks on.
-#[derive(Drop)]
+#[derive(Clone, Copy)]
 struct State {
     line: LongLine,
     more: bool,

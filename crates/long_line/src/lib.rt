@@ -17,14 +17,14 @@ use stream_check::OpenElements;
 use words::No;
 
 // Bytes that are held no more: how many, and what they leave open as the front of a stream, or its refusal.
-#[derive(Drop)]
+#[derive(Clone, Copy)]
 pub struct Past {
     pub bytes: usize,
     pub told: OpenElements,
 }
 
 // A line so far: what is held of it no more, and what has come behind that.
-#[derive(Drop)]
+#[derive(Clone, Copy)]
 pub struct LongLine {
     pub past: Past,
     pub line: SoFar,

@@ -16,7 +16,7 @@ use respond::{Asked, to_line};
 use table::Opening;
 
 // What a piece leaves: the line so far, and how many bytes wait to be written.
-#[derive(Drop)]
+#[derive(Clone, Copy)]
 pub struct Rest {
     pub line: LongLine,
     pub used: usize,
@@ -51,7 +51,7 @@ pub fn answer(
 }
 
 // How far a piece was taken, and what that leaves.
-#[derive(Drop)]
+#[derive(Clone, Copy)]
 struct Taken {
     at: usize,
     line: LongLine,

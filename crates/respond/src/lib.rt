@@ -22,7 +22,7 @@ use why_no_word::WordAnswer;
 use words::No;
 
 // What is asked of a line's bytes: a tree's word; a record's word, or its tree; a tree's record.
-#[derive(Drop)]
+#[derive(Clone, Copy)]
 pub enum Asked {
     Word,
     RecordWord,
@@ -35,7 +35,7 @@ pub enum Asked {
 pub const STRANGE: usize = 25;
 
 // How many bytes wait to be written, and where the answer is counted.
-#[derive(Drop)]
+#[derive(Clone, Copy)]
 pub struct Said {
     pub used: usize,
     pub counted: usize,
