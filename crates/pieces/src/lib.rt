@@ -130,8 +130,8 @@ pub fn take(
     let mut at = 0;
     while at < piece.len() {
         let taken = take_line(
-            to, asked, line, piece, at, opening, frames, numbers, tree, image, plan, room, out, counts,
-            used,
+            to, asked, line, piece, at, opening, frames, numbers, tree, image, plan, room, out,
+            counts, used,
         );
         at = taken.at;
         used = taken.used;

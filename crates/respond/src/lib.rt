@@ -67,7 +67,14 @@ fn put_found(to: Streams, found: WordAnswer, room: &[u8], out: &mut [u8], used: 
 }
 
 // The answer of a call that writes bytes to the front of the room, with the name of what they are.
-fn put_spelled(to: Streams, name: &[u8], spelled: Spelled, room: &[u8], out: &mut [u8], used: usize) -> Said
+fn put_spelled(
+    to: Streams,
+    name: &[u8],
+    spelled: Spelled,
+    room: &[u8],
+    out: &mut [u8],
+    used: usize,
+) -> Said
     ensures { (a : Reply (List ℕ)) (R : List ℕ) → Spells a R room.now spelled
         → Responds (bytes_line name.now) a out.old used out.new result }
 {
@@ -164,7 +171,9 @@ fn to_held(
         return refused(to, no, out, used);
     }
     let bytes = long_line::held(line, tree);
-    to_bytes(to, asked, frames, numbers, bytes, image, plan, room, out, used)
+    to_bytes(
+        to, asked, frames, numbers, bytes, image, plan, room, out, used,
+    )
 }
 
 // The answer to a whole line: one that is not hexadecimal first, then a refused table.

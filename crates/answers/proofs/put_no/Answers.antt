@@ -1,5 +1,4 @@
 -- `put_no` meets its contract: at each turn the numbers up to i are put. The measure is how many are left.
-use Prim.Native.Nat.{◌-◌}
 use mathlib.Core.Path.{ap}
 use lib.Seq.{take_all}
 use Rattle.answers.specs.Lines.{blanked}
@@ -14,12 +13,11 @@ loop-i-init c =
     (search rules, queued_none _ _)
 
 pub loop-i-preserved : goal.loop-i-preserved
-loop-i-preserved c =
-    (
-      search rules,
-      queued_as (blanked_next c.args.numbers.now c.loop-i.i (search rules))
-          (queued_then (queued_then c.loop-i.invariant.1 c.put-at.ensures) c.put_number-at.ensures),
-    )
+loop-i-preserved c = (
+  search rules,
+  queued_as (blanked_next c.args.numbers.now c.loop-i.i (search rules))
+      (queued_then (queued_then c.loop-i.invariant.1 c.put-at.ensures) c.put_number-at.ensures),
+)
 
 pub returns : goal.returns
 returns c =

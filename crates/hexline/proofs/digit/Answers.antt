@@ -18,6 +18,6 @@ returns-else-c-le102 c =
 pub returns-else-c-ge97 : goal.returns-else-c-ge97
 returns-else-c-ge97 c =
     elim c.if-c-ge48.branch [
-      then-c-ge48+else-c-le57 w ↦ law.value_between c.args.c w.if-c-le57.false c.if-c-ge97.false
-    | else-c-ge48 w ↦ law.value_below c.args.c w.if-c-ge48.false
+      | then-c-ge48+else-c-le57 w ↦ law.value_between c.args.c w.if-c-le57.false c.if-c-ge97.false
+      | else-c-ge48 w ↦ law.value_below c.args.c w.if-c-ge48.false
     ]

@@ -1,5 +1,4 @@
 -- `put_all_refused` meets its contract: at each turn the counts up to i are put. The measure is how many are left.
-use Prim.Native.Nat.{◌-◌}
 use Rattle.line_counts.specs.Closing.{refused_from}
 use Rattle.output.proofs.Queues.{queued_none, queued_as, queued_then}
 use Rattle.line_counts.proofs.Texts.{refused_next}
@@ -12,8 +11,7 @@ loop-i-init c =
     (search rules, queued_none _ _)
 
 pub loop-i-preserved : goal.loop-i-preserved
-loop-i-preserved c =
-    (
-      search rules,
-      queued_as (refused_next c.args.counts.now c.loop-i.i (search rules)) (queued_then c.loop-i.invariant.1 c.put_refused-at.ensures),
-    )
+loop-i-preserved c = (
+  search rules,
+  queued_as (refused_next c.args.counts.now c.loop-i.i (search rules)) (queued_then c.loop-i.invariant.1 c.put_refused-at.ensures),
+)
