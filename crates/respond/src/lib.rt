@@ -1,5 +1,7 @@
 // The line that answers a line of hexadecimal: what is asked of its bytes under an opened table, a refusal, or that the line is not
 // hexadecimal.
+#![tactic(auto)]
+
 ghost use Rattle.std.specs.Prelude.{◌≡◌, ◌&&◌, List, ℕ, ◌*◌, ◌<◌, ltb, length};
 ghost use Rattle.std.proofs.Math.Option.{some};
 ghost use Rattle.words.specs.Reply.{Reply, refusal as Reply·refusal};
