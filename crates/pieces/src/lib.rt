@@ -1,4 +1,6 @@
 // The lines of a piece of the input, answered one after the other.
+#![tactic(auto)]
+
 ghost use Rattle.std.specs.Prelude.{List, ◌++◌, ℕ, ◌+◌, ◌*◌, ◌<◌, ◌≤◌, length};
 ghost use Rattle.words.specs.Reply.{Reply};
 ghost use Rattle.machine.specs.Machine.{Table};
