@@ -1,40 +1,52 @@
 // Compares the table texts of two files: `same`, `different`, or `no`, the table, the number and the
 // place.
+#![tactic(auto)]
+
 use comparison::Compared;
 use console::Input;
+use output::Streams;
+use std::env::Env;
+use std::fs::Files;
 
-fn answer(first: &[u8], second: &[u8]) {
+fn answer(to: Streams, first: &[u8], second: &[u8]) {
     match fadurinko::compare(first, second) {
         Compared::Same => {
-            output::print(b"same\n");
+            output::print(to, b"same\n");
         }
         Compared::Different => {
-            output::print(b"different\n");
+            output::print(to, b"different\n");
         }
         Compared::Refused { table, refusal } => {
-            console::print_no(&[table as u64, refusal.number as u64, refusal.place as u64]);
+            console::print_no(
+                to,
+                &[table as u64, refusal.number as u64, refusal.place as u64],
+            );
         }
     }
 }
 
 // Reads the two files and answers.
-fn compare_files(usage: &[u8]) {
+fn compare_files<R: Env + Files>(rt: &R, to: Streams, usage: &[u8]) {
     // One byte more than a text may have, so that a longer one is seen to be too long.
     let mut first = [0u8; layout::TEXT + 1];
-    let Input::Bytes(n) = console::read_file(1, usage, &mut first) else {
+    let Input::Bytes(n) = console::read_file(rt, to, 1, usage, &mut first) else {
         return;
     };
     let mut second = [0u8; layout::TEXT + 1];
-    let Input::Bytes(m) = console::read_file(2, usage, &mut second) else {
+    let Input::Bytes(m) = console::read_file(rt, to, 2, usage, &mut second) else {
         return;
     };
-    answer(output::front(&first, n), output::front(&second, m));
+    answer(to, output::front(&first, n), output::front(&second, m));
 }
 
-fn main() {
+fn main(rt: HostRuntime) {
+    let to = Streams {
+        out: rt.stdout(),
+        err: rt.stderr(),
+    };
     let usage =
         b"usage: compare FILE1 FILE2: two table texts; answers same, different or no TABLE NUMBER PLACE\n";
-    if console::started_with(2, usage) {
-        compare_files(usage);
+    if console::started_with(&rt, to, 2, usage) {
+        compare_files(&rt, to, usage);
     }
 }

@@ -1,36 +1,60 @@
 // What a person is told who asks for help, or starts a program with what it cannot use.
+use check::same;
+use output::Streams;
+use std::env::{Env, FillError};
+use std::io::Print;
 
-// Writes two lines: what the program wants and answers, and where more is said.
-pub fn tell(fd: i32, usage: &[u8]) {
-    io::write_all(fd, usage);
-    io::write_all(
-        fd,
-        b"README.md explains the numbers of no, docs/TABLES.md the table text.\n",
-    );
+// Writes two lines: what the program wants and answers, and where more is said. Where they cannot be
+// written, there is nobody to tell.
+pub fn tell<P: Print>(to: &P, usage: &[u8]) {
+    let _ = to.write_all(usage);
+    let _ = to.write_all(b"README.md explains the numbers of no, docs/TABLES.md the table text.\n");
 }
 
 // Whether a word asks for help.
 fn is_help(word: &[u8]) -> bool {
-    if check::same(word, b"--help") {
+    if same(word, b"--help") {
         return true;
     }
-    check::same(word, b"-h")
+    same(word, b"-h")
 }
 
 // Whether argument i asks for help.
-fn asks_help(i: usize) -> bool {
-    let mut word = io::buffer();
-    let n = os::arg(i, &mut word);
-    is_help(&word[..n])
+fn asks_help<R: Env>(rt: &R, i: usize) -> bool {
+    let mut word = [0u8; 4096];
+    match rt.arg(i, &mut word) {
+        Ok(n) => is_help(output::front(&word, n)),
+        Err(_) => false,
+    }
+}
+
+// Whether there is an argument i, however long.
+fn is_given<R: Env>(rt: &R, i: usize) -> bool {
+    let mut first = [0u8; 1];
+    match rt.arg(i, &mut first) {
+        Ok(_) => true,
+        Err(FillError::TooLong) => true,
+        Err(FillError::NotPresent) => false,
+    }
+}
+
+// How many arguments the program was started with, its own name among them.
+pub fn arg_count<R: Env>(rt: &R) -> usize {
+    for i in 0..usize::MAX {
+        if !is_given(rt, i) {
+            return i;
+        }
+    }
+    usize::MAX
 }
 
 // Whether the program was started with so many arguments. If not, or where help is asked for, says
 // what the program wants.
-pub fn started_with(count: usize, usage: &[u8]) -> bool {
-    let given = os::arg_count();
+pub fn started_with<R: Env>(rt: &R, to: Streams, count: usize, usage: &[u8]) -> bool {
+    let given = arg_count(rt);
     if given == 2 {
-        if asks_help(1) {
-            tell(libc::STDOUT_FILENO, usage);
+        if asks_help(rt, 1) {
+            tell(&to.out, usage);
             return false;
         }
     }
@@ -39,6 +63,6 @@ pub fn started_with(count: usize, usage: &[u8]) -> bool {
             return true;
         }
     }
-    tell(libc::STDERR_FILENO, usage);
+    tell(&to.err, usage);
     false
 }

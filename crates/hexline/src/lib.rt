@@ -1,4 +1,6 @@
 // A line of lowercase hexadecimal, taken as it comes in pieces, decoded into lent bytes.
+#![tactic(auto)]
+
 ghost use Rattle.std.specs.Prelude.{◌≡◌, List, [], ◌∷◌, ◌++◌, ℕ, ◌*◌, ◌+◌, ◌<◌, take};
 ghost use Rattle.words.specs.Told.{Told};
 ghost use Rattle.hexline.specs.SoFar.{Value, ByteStored, LineHeld, WholeBytes, UpToFeed};
@@ -8,7 +10,7 @@ pub const NONE: u8 = 16;
 
 // A line so far: how many bytes it has given, the digit that waits for its fellow, whether another
 // character was in it and whether anything was.
-#[derive(Drop)]
+#[derive(Clone, Copy)]
 pub struct SoFar {
     pub bytes: usize,
     pub half: u8,
@@ -17,7 +19,7 @@ pub struct SoFar {
 }
 
 // A line after some characters of a piece, and how many of these it took.
-#[derive(Drop)]
+#[derive(Clone, Copy)]
 pub struct Fed {
     pub line: SoFar,
     pub taken: usize,

@@ -1,4 +1,6 @@
 // The lines of standard input, each answered with one line on standard output, and at a terminal what became of them.
+#![tactic(auto)]
+
 mod report;
 mod stream;
 

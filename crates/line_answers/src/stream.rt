@@ -5,13 +5,15 @@ ghost use Rattle.std.specs.Prelude.{◌≡◌, ◌<◌, length};
 
 use crate::report;
 use crate::report::Watch;
-use console::Input;
 use long_line::LongLine;
+use output::Streams;
 use respond::Asked;
+use std::io::Stdin;
+use std::time::Clock;
 use table::Opening;
 
 // The line so far, whether there may be more to read, and who looks on.
-#[derive(Drop)]
+#[derive(Clone, Copy)]
 struct State {
     line: LongLine,
     more: bool,
@@ -29,7 +31,9 @@ fn ended(line: LongLine, watch: Watch) -> State {
 
 // Takes a piece of the input and writes the answers. Where these cannot be written, the line so far
 // is dropped.
-fn take_and_write(
+fn take_and_write<R: Clock>(
+    rt: &R,
+    to: Streams,
     asked: Asked,
     line: LongLine,
     watch: Watch,
@@ -45,12 +49,12 @@ fn take_and_write(
     counts: &mut [u64],
 ) -> State {
     let rest = pieces::take(
-        asked, line, piece, opening, frames, numbers, tree, image, plan, room, out, counts,
+        to, asked, line, piece, opening, frames, numbers, tree, image, plan, room, out, counts,
     );
-    if output::flush(out, rest.used) != 0 {
+    if output::flush(to, out, rest.used) != 0 {
         return ended(long_line::start(), watch);
     }
-    let watch = report::step(watch, counts);
+    let watch = report::step(rt, to, watch, counts);
     let line = rest.line;
     State {
         line,
@@ -60,7 +64,10 @@ fn take_and_write(
 }
 
 // Reads a piece of the input and takes it. Where the input cannot be read, the line so far is dropped.
-fn read_some(
+fn read_some<R: Clock>(
+    rt: &R,
+    from: Stdin,
+    to: Streams,
     asked: Asked,
     state: State,
     opening: Opening,
@@ -76,16 +83,21 @@ fn read_some(
 ) -> State {
     let watch = state.watch;
     let line = state.line;
-    let Input::Bytes(n) = console::read_some(libc::STDIN_FILENO, piece) else {
-        os::fail(b"standard input");
-        return ended(long_line::start(), watch);
+    let mut from = from;
+    let n = match console::read_some(&mut from, piece) {
+        Ok(n) => n,
+        Err(why) => {
+            output::fail(to, b"standard input", &why);
+            return ended(long_line::start(), watch);
+        }
     };
     if n == 0 {
         return ended(line, watch);
     }
     let got = output::front(piece, n);
     take_and_write(
-        asked, line, watch, got, opening, frames, numbers, tree, image, plan, room, out, counts,
+        rt, to, asked, line, watch, got, opening, frames, numbers, tree, image, plan, room, out,
+        counts,
     )
 }
 
@@ -99,7 +111,10 @@ fn turns_after(turns: u64, more: bool) -> u64
 
 // Reads the whole input. A proved loop has to end, and nothing says that an input does: the loop
 // counts its turns down, from a number that no run uses up.
-fn read_all(
+fn read_all<R: Clock>(
+    rt: &R,
+    from: Stdin,
+    to: Streams,
     asked: Asked,
     opening: Opening,
     frames: &[u8; layout::FRAMES],
@@ -113,7 +128,7 @@ fn read_all(
     counts: &mut [u64],
 ) -> State {
     let line = long_line::start();
-    let watch = report::start();
+    let watch = report::start(rt, from, to);
     let mut state = State {
         line,
         more: true,
@@ -122,7 +137,8 @@ fn read_all(
     let mut turns = u64::MAX;
     while turns > 0 {
         state = read_some(
-            asked, state, opening, frames, numbers, tree, image, plan, room, piece, out, counts,
+            rt, from, to, asked, state, opening, frames, numbers, tree, image, plan, room, piece,
+            out, counts,
         );
         turns = turns_after(turns, state.more);
     }
@@ -131,6 +147,7 @@ fn read_all(
 
 // Answers a last line without line feed, where there is one.
 fn answer_last(
+    to: Streams,
     asked: Asked,
     line: LongLine,
     opening: Opening,
@@ -147,13 +164,16 @@ fn answer_last(
         return;
     }
     let used = pieces::answer(
-        asked, line, opening, frames, numbers, tree, image, plan, room, out, counts, 0,
+        to, asked, line, opening, frames, numbers, tree, image, plan, room, out, counts, 0,
     );
-    output::flush(out, used);
+    output::flush(to, out, used);
 }
 
 // Answers each line of the input, and says at a terminal what became of them.
-fn answer_lines(
+fn answer_lines<R: Clock>(
+    rt: &R,
+    from: Stdin,
+    to: Streams,
     asked: Asked,
     opening: Opening,
     frames: &[u8; layout::FRAMES],
@@ -167,13 +187,13 @@ fn answer_lines(
     counts: &mut [u64],
 ) {
     let last = read_all(
-        asked, opening, frames, numbers, tree, image, plan, room, piece, out, counts,
+        rt, from, to, asked, opening, frames, numbers, tree, image, plan, room, piece, out, counts,
     );
     let line = last.line;
     answer_last(
-        asked, line, opening, frames, numbers, tree, image, plan, room, out, counts,
+        to, asked, line, opening, frames, numbers, tree, image, plan, room, out, counts,
     );
-    report::end(asked, last.watch, counts);
+    report::end(to, asked, last.watch, counts);
 }
 
 // Zeros, as many as the longest word of a tree has letters: a tree of 32,768 symbols is written with
@@ -188,7 +208,10 @@ fn long_room() -> [u8; 2097184]
 const PLACES: usize = layout::TREE + 1 + 32768;
 
 // Makes the arrays that the answers need, once, and answers the input.
-pub fn answer_all(
+pub fn answer_all<R: Clock>(
+    rt: &R,
+    from: Stdin,
+    to: Streams,
     asked: Asked,
     opening: Opening,
     frames: &[u8; layout::FRAMES],
@@ -198,10 +221,13 @@ pub fn answer_all(
     let mut image = [0u8; layout::TREE];
     let mut plan = [0u32; layout::TREE];
     let mut room = long_room();
-    let mut piece = io::large_buffer();
-    let mut out = io::large_buffer();
+    let mut piece = [0u8; 65536];
+    let mut out = [0u8; 65536];
     let mut counts = [0u64; 26];
     answer_lines(
+        rt,
+        from,
+        to,
         asked,
         opening,
         frames,

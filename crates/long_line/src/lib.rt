@@ -1,5 +1,7 @@
 // A line of hexadecimal of any length, as it comes in pieces. The bytes that came last are held; where these are more than a tree may
 // have, they are looked through as a part of a record's stream, and only what is told of them is kept.
+#![tactic(auto)]
+
 ghost use Rattle.std.specs.Prelude.{◌≡◌, List, [], ◌++◌, ℕ, ◌+◌, ◌*◌, ◌<◌, length, ltb};
 ghost use Rattle.std.proofs.Math.Option.{some};
 ghost use Rattle.words.specs.Reply.{refusal as Reply·refusal, ◌then◌};
@@ -17,14 +19,14 @@ use stream_check::OpenElements;
 use words::No;
 
 // Bytes that are held no more: how many, and what they leave open as the front of a stream, or its refusal.
-#[derive(Drop)]
+#[derive(Clone, Copy)]
 pub struct Past {
     pub bytes: usize,
     pub told: OpenElements,
 }
 
 // A line so far: what is held of it no more, and what has come behind that.
-#[derive(Drop)]
+#[derive(Clone, Copy)]
 pub struct LongLine {
     pub past: Past,
     pub line: SoFar,

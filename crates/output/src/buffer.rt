@@ -3,6 +3,9 @@ ghost use Rattle.std.specs.Prelude.{◌≡◌, [], ◌∷◌, take};
 ghost use Rattle.output.specs.Queue.{Queued, Flushed};
 ghost use Rattle.output.specs.Decimal.{decimal};
 
+use crate::streams::{Streams, fail};
+use std::io::Print;
+
 // What counts the waiting bytes after a write has failed.
 pub const STOPPED: usize = usize::MAX;
 
@@ -14,16 +17,18 @@ pub fn front(buf: &[u8], n: usize) -> &[u8]
 }
 
 // Writes bytes to standard output; says on standard error where that fails.
-pub fn print(bytes: &[u8]) -> bool {
-    if io::write_all(libc::STDOUT_FILENO, bytes) {
-        return true;
+pub fn print(to: Streams, bytes: &[u8]) -> bool {
+    match to.out.write_all(bytes) {
+        Ok(()) => true,
+        Err(error) => {
+            fail(to, b"write", &error);
+            false
+        }
     }
-    os::fail(b"write");
-    false
 }
 
 // Writes the waiting bytes, and answers that none wait, or STOPPED.
-pub fn flush(out: &[u8], used: usize) -> usize
+pub fn flush(to: Streams, out: &[u8], used: usize) -> usize
     ensures { Flushed out.now used result }
 {
     if used == STOPPED {
@@ -32,21 +37,21 @@ pub fn flush(out: &[u8], used: usize) -> usize
     if out.len() < used {
         return STOPPED;
     }
-    if print(front(out, used)) {
+    if print(to, front(out, used)) {
         return 0;
     }
     STOPPED
 }
 
 // Puts a byte behind the waiting ones, which are written first where the buffer is full.
-pub fn put(c: u8, out: &mut [u8], used: usize) -> usize
+pub fn put(to: Streams, c: u8, out: &mut [u8], used: usize) -> usize
     ensures { Queued (c ∷ []) out.old used out.new result }
 {
     if used < out.len() {
         out[used] = c;
         return used + 1;
     }
-    let at = flush(out, used);
+    let at = flush(to, out, used);
     if at < out.len() {
         out[at] = c;
         return at + 1;
@@ -55,23 +60,23 @@ pub fn put(c: u8, out: &mut [u8], used: usize) -> usize
 }
 
 // Puts bytes, one after the other.
-pub fn put_all(bytes: &[u8], out: &mut [u8], used: usize) -> usize
+pub fn put_all(to: Streams, bytes: &[u8], out: &mut [u8], used: usize) -> usize
     ensures { Queued bytes.now out.old used out.new result }
 {
     let mut at = used;
     let mut i = 0;
     while i < bytes.len() {
-        at = put(bytes[i], out, at);
+        at = put(to, bytes[i], out, at);
         i += 1;
     }
     at
 }
 
 // Puts a number in decimal.
-pub fn put_number(n: u64, out: &mut [u8], used: usize) -> usize
+pub fn put_number(to: Streams, n: u64, out: &mut [u8], used: usize) -> usize
     ensures { Queued (decimal n) out.old used out.new result }
 {
     let mut digits = [0u8; 20];
     let k = io::decimal(n, &mut digits);
-    put_all(&digits[..k], out, used)
+    put_all(to, &digits[..k], out, used)
 }

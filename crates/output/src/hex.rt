@@ -5,6 +5,7 @@ ghost use Rattle.output.specs.Queue.{Queued};
 ghost use Rattle.output.specs.Places.{Spelt, TwoPlaces};
 
 use crate::buffer::{STOPPED, flush};
+use crate::streams::Streams;
 
 // The lesser of two numbers.
 fn least(a: usize, b: usize) -> usize
@@ -31,7 +32,7 @@ fn spell(bytes: &[u8], places: &mut [u8]) -> usize
 }
 
 // Where the next two digits go: the waiting bytes are written first where two have no place.
-fn room_for_two(out: &[u8], used: usize) -> usize
+fn room_for_two(to: Streams, out: &[u8], used: usize) -> usize
     ensures { TwoPlaces out.now used result }
 {
     if used < out.len() {
@@ -39,25 +40,25 @@ fn room_for_two(out: &[u8], used: usize) -> usize
             return used;
         }
     }
-    flush(out, used)
+    flush(to, out, used)
 }
 
 // Puts bytes in lowercase hexadecimal.
-pub fn put_hex(bytes: &[u8], out: &mut [u8], used: usize) -> usize
+pub fn put_hex(to: Streams, bytes: &[u8], out: &mut [u8], used: usize) -> usize
     ensures { Queued (hex_of bytes.now) out.old used out.new result }
 {
     let mut at = used;
     let mut i = 0;
     while i < bytes.len() {
-        let to = room_for_two(out, at);
-        if out.len() <= to {
+        let start = room_for_two(to, out, at);
+        if out.len() <= start {
             return STOPPED;
         }
-        let n = spell(&bytes[i..], &mut out[to..]);
+        let n = spell(&bytes[i..], &mut out[start..]);
         if n == 0 {
             return STOPPED;
         }
-        at = to + n * 2;
+        at = start + n * 2;
         i += n;
     }
     at

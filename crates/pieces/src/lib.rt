@@ -1,4 +1,6 @@
 // The lines of a piece of the input, answered one after the other.
+#![tactic(auto)]
+
 ghost use Rattle.std.specs.Prelude.{List, ◌++◌, ℕ, ◌+◌, ◌*◌, ◌<◌, ◌≤◌, length};
 ghost use Rattle.words.specs.Reply.{Reply};
 ghost use Rattle.machine.specs.Machine.{Table};
@@ -11,11 +13,12 @@ ghost use Rattle.respond.specs.Response.{line_answer};
 ghost use Rattle.pieces.specs.Piece.{FeedFree, LinesAnswered, PieceSoFar};
 
 use long_line::LongLine;
+use output::Streams;
 use respond::{Asked, to_line};
 use table::Opening;
 
 // What a piece leaves: the line so far, and how many bytes wait to be written.
-#[derive(Drop)]
+#[derive(Clone, Copy)]
 pub struct Rest {
     pub line: LongLine,
     pub used: usize,
@@ -23,6 +26,7 @@ pub struct Rest {
 
 // Answers a whole line and counts the answer; answers how many bytes wait to be written then.
 pub fn answer(
+    to: Streams,
     asked: Asked,
     line: LongLine,
     opening: Opening,
@@ -42,14 +46,14 @@ pub fn answer(
         → Queued (line_answer asked t (length room.old) cs) out.old used out.new result }
 {
     let said = to_line(
-        asked, line, opening, frames, numbers, tree, image, plan, room, out, used,
+        to, asked, line, opening, frames, numbers, tree, image, plan, room, out, used,
     );
     line_counts::raise(counts, said.counted);
     said.used
 }
 
 // How far a piece was taken, and what that leaves.
-#[derive(Drop)]
+#[derive(Clone, Copy)]
 struct Taken {
     at: usize,
     line: LongLine,
@@ -58,6 +62,7 @@ struct Taken {
 
 // Takes the characters of a piece from `at` on, up to a line feed, and answers the line that ends there; or up to the piece's end.
 fn take_line(
+    to: Streams,
     asked: Asked,
     line: LongLine,
     piece: &[u8],
@@ -86,7 +91,7 @@ fn take_line(
     let at = at + fed.taken;
     if at < piece.len() {
         let used = answer(
-            asked, line, opening, frames, numbers, tree, image, plan, room, out, counts, used,
+            to, asked, line, opening, frames, numbers, tree, image, plan, room, out, counts, used,
         );
         let line = long_line::start();
         return Taken {
@@ -101,6 +106,7 @@ fn take_line(
 // Takes a piece of the input: each line that ends in it is answered, in their order. The tree has places for the bytes of the longest
 // tree, and of the piece.
 pub fn take(
+    to: Streams,
     asked: Asked,
     line: LongLine,
     piece: &[u8],
@@ -126,8 +132,8 @@ pub fn take(
     let mut at = 0;
     while at < piece.len() {
         let taken = take_line(
-            asked, line, piece, at, opening, frames, numbers, tree, image, plan, room, out, counts,
-            used,
+            to, asked, line, piece, at, opening, frames, numbers, tree, image, plan, room, out,
+            counts, used,
         );
         at = taken.at;
         used = taken.used;

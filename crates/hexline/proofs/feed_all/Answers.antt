@@ -1,0 +1,10 @@
+-- `feed_all` meets its contract. The loop's invariant: the characters before `taken` are taken, and none is a line feed.
+-- The measure is what is left of the piece. Assumes nothing.
+use native.Mathlib.Omega.{arith}
+use borrow.Author.Rules.{rules}
+use Rattle.hexline.proofs.Laws as law
+use Rattle.hexline.proofs.feed_all.Goals as goal
+
+pub loop-taken-preserved : goal.loop-taken-preserved
+loop-taken-preserved c =
+    law.fed_more c.loop-taken.invariant (omega arith) (search rules) c.if-c-eq10.false c.feed-line.ensures

@@ -1,0 +1,14 @@
+-- `put_hex` meets its contract: at each turn the digits of the bytes up to i are put. The measure is how many bytes are left.
+use Prim.Native.Nat.{◌≤◌, ◌-◌}
+use lib.ListN.{length, take}
+use Rattle.text.specs.Lines.{hex_of}
+use Rattle.output.specs.Queue.{Queued}
+use Rattle.output.proofs.hex.put_hex.Given as goal
+
+abbrev pub invariant-loop-i : goal.invariant-loop-i
+invariant-loop-i l =
+    (l.i ≤ length l.bytes) × Queued (hex_of (take l.i l.bytes)) l.initial.out l.used l.out l.at
+
+abbrev pub decreases-loop-i : goal.decreases-loop-i
+decreases-loop-i l =
+    length l.bytes - l.i

@@ -1,0 +1,7 @@
+-- `put_found` meets its contract: the line of a word, or of a refusal.
+use Rattle.respond.proofs.Laws as law
+use Rattle.respond.proofs.put_found.Goals as goal
+
+pub returns-in-Refused : goal.returns-in-Refused
+returns-in-Refused c =
+    λ a R h. law.refusal_responds a R _ _ _ _ _ _ _ c.in-Refused.is h c.refused.ensures
