@@ -5,5 +5,10 @@ use Rattle.fadurinko_c.proofs.fadurinko_judge_opened.Goals as goal
 pub returns : goal.returns
 returns c =
     λ M o.
-    record { verdict = verdict_of c.judge_opened-judgement.result; answer = c.judge_opened-judgement.ensures M o; told =
-        c.tell_judgement.ensures.value; all = c.tell_judgement.ensures.answer_after }
+    record {
+      verdict = verdict_of c.judge_opened-judgement.result;
+      answer = c.judge_opened-judgement.ensures M o;
+      told =
+          c.tell_judgement.ensures.value;
+      all = c.tell_judgement.ensures.answer_after;
+    }
