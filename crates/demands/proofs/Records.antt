@@ -17,17 +17,15 @@ use Rattle.trees.specs.Preorder.{preorder}
 use Rattle.trees.specs.Shape.{read_tree}
 use Rattle.trees.proofs.Refusals.{refused_cause, cause_refused, cause_number}
 use Rattle.records.specs.Records.{Element, bytes_of, image}
-use Rattle.records.specs.Symbols.{RecordSymbols, last_symbol}
-use Rattle.records.specs.Stream.{read_record}
+use Rattle.records.specs.Symbols.{last_symbol}
 use Rattle.records.specs.Back.{back as back'}
 use Rattle.records.specs.Calls.{spelled, tree_of, record_of}
 use Rattle.records.proofs.Symbols.{last_given, last_refused}
 use Rattle.records.proofs.Refusals.{read_refused}
-use Rattle.records.proofs.Calls.{SpelledAs, spelled_as, as_spelled, spelled_refused, tree_record, record_tree, tree_given, record_none}
+use Rattle.records.proofs.Calls.{spelled_as, as_spelled, spelled_refused, tree_record, record_tree, tree_given, record_none}
 use Rattle.records.proofs.Calls.{TreeCause, stream, long, deep, tree_refused}
 use Rattle.records.proofs.Ranked.{image_refused}
 use Rattle.records.specs.Causes.{strange, stray, unended, again}
-use Rattle.promises.specs.Room.{into}
 use Rattle.promises.specs.Word.{word_on, word_answer}
 use Rattle.promises.specs.Records.{word_of_record, tree_of_record, record_of_tree, on_table, on_text}
 use Rattle.promises.proofs.Room.{TooLong, into_refused}

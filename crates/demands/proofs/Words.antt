@@ -3,7 +3,6 @@
 use mathlib.Core.Path.{◌≡◌, refl, sym, ◌∙◌, ap₂}
 use mathlib.Core.List.{List}
 use mathlib.Core.Logic.{◌⊎◌, inl, inr, ◌↔◌}
-use mathlib.Core.Option.{some}
 use Prim.Native.Nat.{ℕ, ◌≤◌}
 use native.Mathlib.Omega.{arith}
 use Rattle.words.specs.Word.{Word}
