@@ -13,62 +13,62 @@ returns-then-n-eq0-clause-stepped c =
 pub returns-then-phase-eq0-clause-stepped : goal.returns-then-phase-eq0-clause-stepped
 returns-then-phase-eq0-clause-stepped c =
     let there : law.FrameThere c.args.frames.now c.args.st c.args.n =
-        record { some = omega (arith, c.if-n-eq0.false); inside = omega (arith, c.requires.n_bound) } in
+    record { some = omega (arith, c.if-n-eq0.false); inside = omega (arith, c.requires.n_bound) } in
     λ stage d. law.step_symbol (there) c.args.rules.now stage d _ c.in-1.is c.if-phase-eq0.true c.symbol_frame.ensures
 
 pub returns-else-phase-eq0-clause-stepped : goal.returns-else-phase-eq0-clause-stepped
 returns-else-phase-eq0-clause-stepped c =
     let there : law.FrameThere c.args.frames.now c.args.st c.args.n =
-        record { some = omega (arith, c.if-n-eq0.false); inside = omega (arith, c.requires.n_bound) } in
+    record { some = omega (arith, c.if-n-eq0.false); inside = omega (arith, c.requires.n_bound) } in
     λ stage d. law.step_undue (there) c.args.rules.now stage d _ 1 c.in-1.is c.if-phase-eq0.false
 
 pub returns-then-st-gt0-clause-stepped : goal.returns-then-st-gt0-clause-stepped
 returns-then-st-gt0-clause-stepped c =
     let there : law.FrameThere c.args.frames.now c.args.st c.args.n =
-        record { some = omega (arith, c.if-n-eq0.false); inside = omega (arith, c.requires.n_bound) } in
+    record { some = omega (arith, c.if-n-eq0.false); inside = omega (arith, c.requires.n_bound) } in
     let symbols = c.if-st-gt0.true in
     λ stage d. law.step_start (there) c.args.rules.now stage d _ c.in-2.is c.if-phase-eq0-2.true symbols
-          c.start_frame.ensures
+    c.start_frame.ensures
 
 pub returns-else-phase-eq0-2-clause-stepped : goal.returns-else-phase-eq0-2-clause-stepped
 returns-else-phase-eq0-2-clause-stepped c =
     let there : law.FrameThere c.args.frames.now c.args.st c.args.n =
-        record { some = omega (arith, c.if-n-eq0.false); inside = omega (arith, c.requires.n_bound) } in
+    record { some = omega (arith, c.if-n-eq0.false); inside = omega (arith, c.requires.n_bound) } in
     λ stage d. law.step_undue (there) c.args.rules.now stage d _ 2 c.in-2.is
-          (λ due. ⊎_elim (λ w. omega (arith, w.1, due.1)) (λ w. w due.0) c.else-phase-eq0-2.either)
+    (λ due. ⊎_elim (λ w. omega (arith, w.1, due.1)) (λ w. w due.0) c.else-phase-eq0-2.either)
 
 pub returns-then-phase-eq1-clause-stepped : goal.returns-then-phase-eq1-clause-stepped
 returns-then-phase-eq1-clause-stepped c =
     let there : law.FrameThere c.args.frames.now c.args.st c.args.n =
-        record { some = omega (arith, c.if-n-eq0.false); inside = omega (arith, c.requires.n_bound) } in
+    record { some = omega (arith, c.if-n-eq0.false); inside = omega (arith, c.requires.n_bound) } in
     λ stage d. law.step_rule (there) c.args.rules.now stage d _ _ c.in-3.is c.if-phase-eq1.true c.rule_frame.ensures.stepped
 
 pub returns-else-phase-eq1-clause-stepped : goal.returns-else-phase-eq1-clause-stepped
 returns-else-phase-eq1-clause-stepped c =
     let there : law.FrameThere c.args.frames.now c.args.st c.args.n =
-        record { some = omega (arith, c.if-n-eq0.false); inside = omega (arith, c.requires.n_bound) } in
+    record { some = omega (arith, c.if-n-eq0.false); inside = omega (arith, c.requires.n_bound) } in
     λ stage d. law.step_undue (there) c.args.rules.now stage d _ 3 c.in-3.is c.if-phase-eq1.false
 
 pub returns-then-phase-eq1-2-clause-stepped : goal.returns-then-phase-eq1-2-clause-stepped
 returns-then-phase-eq1-2-clause-stepped c =
     let there : law.FrameThere c.args.frames.now c.args.st c.args.n =
-        record { some = omega (arith, c.if-n-eq0.false); inside = omega (arith, c.requires.n_bound) } in
+    record { some = omega (arith, c.if-n-eq0.false); inside = omega (arith, c.requires.n_bound) } in
     λ stage d. law.step_end (there) c.args.rules.now stage d _ c.in-4.is c.if-phase-eq1-2.true c.end_frame.ensures
 
 pub returns-else-phase-eq1-2-clause-stepped : goal.returns-else-phase-eq1-2-clause-stepped
 returns-else-phase-eq1-2-clause-stepped c =
     let there : law.FrameThere c.args.frames.now c.args.st c.args.n =
-        record { some = omega (arith, c.if-n-eq0.false); inside = omega (arith, c.requires.n_bound) } in
+    record { some = omega (arith, c.if-n-eq0.false); inside = omega (arith, c.requires.n_bound) } in
     λ stage d. law.step_undue (there) c.args.rules.now stage d _ 4 c.in-4.is c.if-phase-eq1-2.false
 
 pub returns-in-0-clause-stepped : goal.returns-in-0-clause-stepped
 returns-in-0-clause-stepped c =
     let there : law.FrameThere c.args.frames.now c.args.st c.args.n =
-        record { some = omega (arith, c.if-n-eq0.false); inside = omega (arith, c.requires.n_bound) } in
+    record { some = omega (arith, c.if-n-eq0.false); inside = omega (arith, c.requires.n_bound) } in
     λ stage d. law.step_undue (there) c.args.rules.now stage d _ 0 (search rules) (λ z. z)
 
 pub returns-in-0-2-clause-stepped : goal.returns-in-0-2-clause-stepped
 returns-in-0-2-clause-stepped c =
     let there : law.FrameThere c.args.frames.now c.args.st c.args.n =
-        record { some = omega (arith, c.if-n-eq0.false); inside = omega (arith, c.requires.n_bound) } in
+    record { some = omega (arith, c.if-n-eq0.false); inside = omega (arith, c.requires.n_bound) } in
     λ stage d. law.step_unknown (there) c.args.rules.now stage d _ (omega arith) (omega arith) (omega arith) (omega arith)
