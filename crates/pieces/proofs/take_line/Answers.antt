@@ -9,10 +9,13 @@ returns-then-at-piece-clause-by_index c =
     λ T₀ l₀ O₀ g.
     so_far_answered c.args.piece.now (c.args.at + c.feed_all-fed.result.taken)
     (so_far_as c.args.piece.now c.with_rest-line.ensures
-    (so_far_fed c.args.piece.now c.args.at c.feed_all-fed.result.taken g c.feed_all-fed.ensures.up_to_feed c.feed_all-fed.ensures.by_index c.feed_all-fed.auto.tree))
-    refl c.answer-used.ensures c.start-line.ensures c.if-at-piece.true (taken_feed c.args.piece.now c.args.at c.feed_all-fed.result.taken c.feed_all-fed.ensures.up_to_feed c.if-at-piece.true)
+    (so_far_fed c.args.piece.now c.args.at c.feed_all-fed.result.taken g c.feed_all-fed.ensures.up_to_feed c.feed_all-fed.ensures.by_index
+    c.feed_all-fed.auto.tree))
+    refl c.answer-used.ensures c.start-line.ensures c.if-at-piece.true
+    (taken_feed c.args.piece.now c.args.at c.feed_all-fed.result.taken c.feed_all-fed.ensures.up_to_feed c.if-at-piece.true)
 
 pub returns-clause-by_index : goal.returns-clause-by_index
 returns-clause-by_index c =
     λ T₀ l₀ O₀ g. so_far_as c.args.piece.now c.with_rest-line.ensures
-    (so_far_fed c.args.piece.now c.args.at c.feed_all-fed.result.taken g c.feed_all-fed.ensures.up_to_feed c.feed_all-fed.ensures.by_index c.feed_all-fed.auto.tree)
+    (so_far_fed c.args.piece.now c.args.at c.feed_all-fed.result.taken g c.feed_all-fed.ensures.up_to_feed c.feed_all-fed.ensures.by_index
+    c.feed_all-fed.auto.tree)
