@@ -75,12 +75,12 @@ extern "C" {
 #define FADURINKO_STACK_FORM 65536                /* fadurinko_form, fadurinko_form_of */
 #define FADURINKO_STACK_COMPARE 188416            /* fadurinko_compare, fadurinko_compare_of */
 #define FADURINKO_STACK_OPEN 28672                /* fadurinko_open, fadurinko_open_table */
-#define FADURINKO_STACK_FIND 16384                /* fadurinko_find, fadurinko_find_in, fadurinko_find_with */
+#define FADURINKO_STACK_FIND 8192                 /* fadurinko_find, fadurinko_find_in, fadurinko_find_with */
 #define FADURINKO_STACK_JUDGE_OPENED 1536         /* fadurinko_judge_opened, fadurinko_judge_in */
 #define FADURINKO_STACK_RECORD_WORD 241664        /* fadurinko_record_word, fadurinko_record_word_of */
 #define FADURINKO_STACK_RECORD_TREE 65536         /* fadurinko_record_tree, fadurinko_record_tree_of */
 #define FADURINKO_STACK_TREE_RECORD 65536         /* fadurinko_tree_record, fadurinko_tree_record_of */
-#define FADURINKO_STACK_RECORD_WORD_OPENED 16384  /* fadurinko_record_word_opened, .._in, .._with */
+#define FADURINKO_STACK_RECORD_WORD_OPENED 8192   /* fadurinko_record_word_opened, .._in, .._with */
 #define FADURINKO_STACK_RECORD_TREE_OPENED 512    /* fadurinko_record_tree_opened, .._in */
 #define FADURINKO_STACK_TREE_RECORD_OPENED 12288  /* fadurinko_tree_record_opened, .._in */
 

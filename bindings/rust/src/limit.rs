@@ -41,7 +41,7 @@ pub const STACK_COMPARE: usize = 188_416;
 /// Bytes of stack that opening a table takes at most.
 pub const STACK_OPEN: usize = 28_672;
 /// Bytes of stack that a word by an opened table takes at most.
-pub const STACK_FIND: usize = 16_384;
+pub const STACK_FIND: usize = 8_192;
 /// Bytes of stack that the judgement of an opened table takes at most.
 pub const STACK_JUDGE_OPENED: usize = 1_536;
 /// Bytes of stack that the word of a record by a text takes at most.
@@ -51,7 +51,7 @@ pub const STACK_RECORD_TREE: usize = 65_536;
 /// Bytes of stack that the record of a tree by a text takes at most.
 pub const STACK_TREE_RECORD: usize = 65_536;
 /// Bytes of stack that the word of a record by an opened table takes at most.
-pub const STACK_RECORD_WORD_OPENED: usize = 16_384;
+pub const STACK_RECORD_WORD_OPENED: usize = 8_192;
 /// Bytes of stack that the tree of a record by an opened table takes at most.
 pub const STACK_RECORD_TREE_OPENED: usize = 512;
 /// Bytes of stack that the record of a tree by an opened table takes at most.
