@@ -144,10 +144,10 @@ module _ (M : Table) (K : ℕ → Ends) (W : Witnessed M left K) (C : Covering M
   -- The summary is shown.
   started_shown : Shown (Ending left Started) started
   started_shown =
-      let last-shown = alone_shown (Ending left last) (first M.after) (M.after, (tt, refl), refl) in
+      let last_shown = alone_shown (Ending left last) (first M.after) (M.after, (tt, refl), refl) in
       subst (λ x. Shown (Ending left Started) (before (K M.start) x)) (sym (alone_blank (first M.after)))
       (beside_shown left (L M M.start) last Started (λ u v h k. (h.0, cc (h.1, k.1)))
-      (K M.start) (alone (first M.after)) (W M.start) last-shown)
+      (K M.start) (alone (first M.after)) (W M.start) last_shown)
     where
       last : Unit {0} → Option Word
       last i = some M.after
@@ -157,9 +157,9 @@ module _ (M : Table) (K : ℕ → Ends) (W : Witnessed M left K) (C : Covering M
   started_fits w h =
       let a = left_of (L M M.start h.0) M.after w h.1 in
       let last : Ends = alone (first M.after) in
-      let both-fit = beside_fits left a.0 M.after (K M.start) last (C M.start a.0 (h.0, a.1)) (alone_allows (first M.after)) in
+      let both_fit = beside_fits left a.0 M.after (K M.start) last (C M.start a.0 (h.0, a.1)) (alone_allows (first M.after)) in
       subst (λ x. Fits left w (before (K M.start) x)) (sym (alone_blank (first M.after)))
-      (subst (λ x. Fits left x (before (K M.start) last)) a.2 both-fit)
+      (subst (λ x. Fits left x (before (K M.start) last)) a.2 both_fit)
 
   -- The test of the initial rule: its last word cannot be pushed, so E2 holds of it.
   pub free_start : NoPrefix (L M M.start) → stuck (K M.start) M.after ≡ false → LeftStart M

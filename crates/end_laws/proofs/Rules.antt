@@ -96,11 +96,11 @@ module _ (M : Table) (side : Side) (K : ℕ → Ends) where
   rest_fits t ts c cs w f g e =
       let a = both_of (word M c.state t) (some c.after ⊕ words M ts cs) w e in
       let b = right_of c.after (words M ts cs) a.1 a.3 in
-      let behind-fits =
+      let behind_fits =
       subst (λ x. Fits side x (after side K c cs)) b.2
       (beside_fits side c.after b.0 (alone (end side c.after)) (along side K cs) (alone_allows (end side c.after)) (g b.0 b.1)) in
       subst (λ x. Fits side x (beside side (K c.state) (after side K c cs))) a.4
-      (beside_fits side a.0 a.1 (K c.state) (after side K c cs) (f a.0 a.2) behind-fits)
+      (beside_fits side a.0 a.1 (K c.state) (after side K c cs) (f a.0 a.2) behind_fits)
 
   -- Where every word of each state fits, every word of a rest fits.
   pub along_fits : Covering M side K → (ts : Forest) (cs : List Child) (w : Word) → words M ts cs ≡ some w → Fits side w (along side K cs)
@@ -114,9 +114,9 @@ module _ (M : Table) (side : Side) (K : ℕ → Ends) where
   settled_fits C q f r w e h =
       let a = find_index M.rows q f r e in
       let of_row = C a.index a.row a.there in
-      let of-rule = subst (λ x. join (K a.row.state) (value side K x) ≡ K a.row.state) a.rule of_row in
-      let of-state : join (K q) (value side K r) ≡ K q = subst (λ p. join (K p) (value side K r) ≡ K p) a.state of-rule in
-      subst (λ x. Fits side w x) of-state (join_allows (K q) (value side K r) (end side w) h)
+      let of_rule = subst (λ x. join (K a.row.state) (value side K x) ≡ K a.row.state) a.rule of_row in
+      let of_state : join (K q) (value side K r) ≡ K q = subst (λ p. join (K p) (value side K r) ≡ K p) a.state of_rule in
+      subst (λ x. Fits side w x) of_state (join_allows (K q) (value side K r) (end side w) h)
 
   module _ (C : Closed M side K) where
     mutual

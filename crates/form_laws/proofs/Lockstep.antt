@@ -78,8 +78,8 @@ module _ (s t : Test) (R : ℕ → ℕ → Type 0) (tests : (p q p' q' : ℕ) �
     step_pairs i xs ys h l =
         let p : ℕ = get_or xs i zero in
         let q : ℕ = get_or ys i zero in
-        let kids-pairs = child_states_pairs R (rows_of rows p) (rows_of rows' q) (alike p q (pairs_at R xs ys h i zero zero l)) in
-        meet_pairs xs ys (child_states (rows_of rows p)) (child_states (rows_of rows' q)) h kids-pairs
+        let kids_pairs = child_states_pairs R (rows_of rows p) (rows_of rows' q) (alike p q (pairs_at R xs ys h i zero zero l)) in
+        meet_pairs xs ys (child_states (rows_of rows p)) (child_states (rows_of rows' q)) h kids_pairs
 
     -- Two visits from related lists end with related lists.
     pub visit_pairs : (n i : ℕ) (xs ys : List ℕ) → Pairs R xs ys → Pairs R (visit s rows n i xs) (visit t rows' n i ys)

@@ -23,7 +23,7 @@ module _ {F R : List ℕ} {st : Stage} {M : Table} (a : AtRules F R st M) (at en
   pub end_over : at < end → end ≤ length F → Stepped F R (text.whole (text.end_frame M (slice at end F))) (next.Wrong 5)
   end_over h l = stepped_left F R _ _ at end refl h l
 
-  module _ (whole : end ≤ at) (next-to : at ≡ st.used + 1) (start : at ≤ end) (inside : end ≤ length F) (kind : get_or F st.used 0 ≡ 4) where
+  module _ (whole : end ≤ at) (next_to : at ≡ st.used + 1) (start : at ≤ end) (inside : end ≤ length F) (kind : get_or F st.used 0 ≡ 4) where
     -- No byte is left over.
     nothing_left : slice at end F ≡ []
     nothing_left = slice_none F at end (omega arith)
@@ -31,7 +31,7 @@ module _ {F R : List ℕ} {st : Stage} {M : Table} (a : AtRules F R st M) (at en
     -- The end frame stands behind the frames so far.
     frames_all : take end F ≡ frames_of M
     unfolding frames_of
-    frames_all = frame_more F st.used at end _ _ 4 (omega arith) inside next-to a.frames kind nothing_left
+    frames_all = frame_more F st.used at end _ _ 4 (omega arith) inside next_to a.frames kind nothing_left
 
     -- The stage behind the end.
     pub end_next : Stepped F R (text.whole (text.end_frame M (slice at end F))) (next.Ready (behind_end st end))

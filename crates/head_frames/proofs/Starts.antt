@@ -102,7 +102,7 @@ module _ {F : List ℕ} (ks : List ℕ) {at end n b : ℕ} (i : IsNumber F at en
         pub start_over : (R : List ℕ) → then < end → end ≤ length F → Stepped F R (whole (start_frame ks (slice at end F))) (next.Wrong 5)
         start_over R h l = stepped_left F R _ _ then end taken h l
 
-        module _ {st : Stage} (z : AtSymbols F st ks) (all : end ≤ then) (next-to : at ≡ st.used + 1) (inside : end ≤ length F)
+        module _ {st : Stage} (z : AtSymbols F st ks) (all : end ≤ then) (next_to : at ≡ st.used + 1) (inside : end ≤ length F)
             (kind : get_or F st.used 0 ≡ 2) where
           -- The fields' bytes.
           start_fields : slice at end F ≡ n ∷ text_of u ++ q ∷ text_of v
@@ -120,7 +120,7 @@ module _ {F : List ℕ} (ks : List ℕ) {at end n b : ℕ} (i : IsNumber F at en
 
           -- The bytes are the frames of the table.
           frames_with : take end F ≡ head_frames (started ks n u q v) ++ row_frames []
-          frames_with = frame_more F st.used at end _ _ 2 some inside next-to z.frames kind start_fields ∙ head_alone ks n u q v
+          frames_with = frame_more F st.used at end _ _ 2 some inside next_to z.frames kind start_fields ∙ head_alone ks n u q v
 
           -- They are as many as are used.
           frames_end : end ≡ length (head_frames (started ks n u q v) ++ row_frames [])
@@ -132,11 +132,11 @@ module _ {F : List ℕ} (ks : List ℕ) {at end n b : ℕ} (i : IsNumber F at en
               let long = length_symbols ks in
               let u0 : b ≡ (head_of (started ks n u q v)).before = omega (arith, i.next, z.used) in
               let u1 : c ≡ (head_of (started ks n u q v)).after = omega (arith, i.next, i₁.next, i₁.long, i₂.next, z.used) in
-              let head-end = frames_end ∙ ap length (rows_none (head_frames (started ks n u q v))) in
+              let head_end = frames_end ∙ ap length (rows_none (head_frames (started ks n u q v))) in
               record {
                 phase = refl;
                 numbers = record {
-                  head = head_same _ _ _ _ _ _ (started ks n u q v) z.symbols refl refl u0 u1 head-end refl;
+                  head = head_same _ _ _ _ _ _ (started ks n u q v) z.symbols refl refl u0 u1 head_end refl;
                   symbols = z.few;
                   small = z.small;
                   states = (within_inv 1 states_most _ n _ i.read).1;

@@ -51,10 +51,10 @@ module _ (F R : List ℕ) (at end k : ℕ) (p : Parsed text.Stage) (f : Field) (
 -- The bytes up to a frame's end are those before it, its kind, and its fields.
 pub frame_more : (F : List ℕ) (used at end : ℕ) (front fields : List ℕ) (kind : ℕ) → used < end → end ≤ length F → at ≡ used + 1
     → take used F ≡ front → get_or F used 0 ≡ kind → slice at end F ≡ fields → take end F ≡ front ++ kind ∷ fields
-frame_more F used at end front fields kind h k next-to e f g =
+frame_more F used at end front fields kind h k next_to e f g =
     sym (take-append-drop used (take end F))
     ∙ ap₂ ◌++◌ (take-take used end F (omega arith) ∙ e)
-    (slice_byte F used end kind h k (sym f) ∙ ap (λ x. kind ∷ x) (ap (λ n. slice n end F) (sym next-to) ∙ g))
+    (slice_byte F used end kind h k (sym f) ∙ ap (λ x. kind ∷ x) (ap (λ n. slice n end F) (sym next_to) ∙ g))
 
 -- They are as many as the place of its end says.
 pub frame_long : (F : List ℕ) (end : ℕ) (all : List ℕ) → end ≤ length F → take end F ≡ all → end ≡ length all

@@ -49,7 +49,7 @@ module _ {F : List ℕ} {st : Stage} {ks : List ℕ} (d : AtSymbols F st ks) (at
       pub symbol_over : (R : List ℕ) → then < end → end ≤ length F → Stepped F R (text.whole (symbol_frame ks (slice at end F))) (next.Wrong 5)
       symbol_over R h l = stepped_left F R _ _ then end taken h l
 
-      module _ (whole : end ≤ then) (next-to : at ≡ st.used + 1) (inside : end ≤ length F) (kind : get_or F st.used 0 ≡ 1) where
+      module _ (whole : end ≤ then) (next_to : at ≡ st.used + 1) (inside : end ≤ length F) (kind : get_or F st.used 0 ≡ 1) where
         -- The arity is at most 4, and its byte is the frame's only field.
         arity_read : (a ≤ arity_most) × (slice at end F ≡ a ∷ slice then end F)
         arity_read = let x = within_inv 0 arity_most (slice at end F) a (slice then end F) i.read in (x.1, x.2)
@@ -63,7 +63,7 @@ module _ {F : List ℕ} {st : Stage} {ks : List ℕ} (d : AtSymbols F st ks) (at
 
         -- The symbol's frame stands behind the frames so far.
         frames_with : take end F ≡ symbol_frames (ks ++ a ∷ [])
-        frames_with = frame_more F st.used at end _ _ 1 some inside next-to d.frames kind field_alone ∙ sym (symbols_more ks a)
+        frames_with = frame_more F st.used at end _ _ 1 some inside next_to d.frames kind field_alone ∙ sym (symbols_more ks a)
 
         -- The stage behind the symbol.
         pub symbol_next : (R : List ℕ) (st' : Stage) → st'.phase ≡ 0 → st'.head.symbols ≡ st.head.symbols + 1 → st'.used ≡ end

@@ -281,14 +281,14 @@ module _ {F I cs T : List ℕ} {l : LongLine} (h : LongHeld F I (2 * length T) c
           let few : length bs < length T = omega (arith, bytes_length h.rest bs g) in
           let fit = fit_held bs T l.line.bytes t few in
           let is : v ≡ bs = d ∙ fit.1 in
-          let some-front = ap bytes_of h.parts ∙ bytes_append h.front h.rest h.gone (some bs) h.bytes g in
+          let some_front = ap bytes_of h.parts ∙ bytes_append h.front h.rest h.gone (some bs) h.bytes g in
           record {
             front = cs;
             rest = [];
             gone = h.gone ++ v;
             parts = sym (append-nil cs);
-            bytes = some-front ∙ ap (λ (x : List ℕ). some (h.gone ++ x)) (sym is);
-            past = f h.gone (omega (arith, ap length is, bytes_length cs (h.gone ++ bs) some-front, length-append h.gone bs)) h.past;
+            bytes = some_front ∙ ap (λ (x : List ℕ). some (h.gone ++ x)) (sym is);
+            past = f h.gone (omega (arith, ap length is, bytes_length cs (h.gone ++ bs) some_front, length-append h.gone bs)) h.past;
             long = inr (omega (arith, ap length is, fit.0, length-append h.gone v));
             held = record { any = no_digit i; state = whole [] refl i refl (none_held T) };
             short = inr (omega arith);
@@ -297,7 +297,7 @@ module _ {F I cs T : List ℕ} {l : LongLine} (h : LongHeld F I (2 * length T) c
           let few : length bs < length T = omega (arith, bytes_length front bs q, ap length g, length-append front (c ∷ [])) in
           let fit = fit_held bs T l.line.bytes t few in
           let is : v ≡ bs = d ∙ fit.1 in
-          let some-front = bytes_append h.front front h.gone (some bs) h.bytes q in
+          let some_front = bytes_append h.front front h.gone (some bs) h.bytes q in
           let split : cs ≡ (h.front ++ front) ++ c ∷ [] =
           h.parts ∙ ap (λ (x : List ℕ). h.front ++ x) g ∙ sym (append_assoc h.front front (c ∷ [])) in
           let fewer : length h.gone + length v < count_most =
@@ -306,7 +306,7 @@ module _ {F I cs T : List ℕ} {l : LongLine} (h : LongHeld F I (2 * length T) c
             ap length is,
             ap length split,
             length-append (h.front ++ front) (c ∷ []),
-            bytes_length (h.front ++ front) (h.gone ++ bs) some-front,
+            bytes_length (h.front ++ front) (h.gone ++ bs) some_front,
             length-append h.gone bs,
           ) in
           record {
@@ -314,7 +314,7 @@ module _ {F I cs T : List ℕ} {l : LongLine} (h : LongHeld F I (2 * length T) c
             rest = c ∷ [];
             gone = h.gone ++ v;
             parts = split;
-            bytes = some-front ∙ ap (λ (x : List ℕ). some (h.gone ++ x)) (sym is);
+            bytes = some_front ∙ ap (λ (x : List ℕ). some (h.gone ++ x)) (sym is);
             past = f h.gone fewer h.past;
             long = inr (omega (arith, ap length is, fit.0, length-append h.gone v));
             held = record { any = digit-waits i; state = waits [] [] c refl i refl j refl (none_held T) };

@@ -26,10 +26,10 @@ silent =
     }
 
 -- On g(e,h) the table has the empty word, and on g(h,e) none.
-pub silent-turns-down
+pub silent_turns_down
     : (word silent 0 (node 0 (node 1 ∅ ▸ node 2 ∅ ▸ ∅)) ≡ some []) × (word silent 0 (node 0 (node 2 ∅ ▸ node 1 ∅ ▸ ∅)) ≡ none)
 unfolding word find
-silent-turns-down = (refl, refl)
+silent_turns_down = (refl, refl)
 
 -- States 1 and 2 agree wherever both have a word.
 pub silent_agree : (t : Tree) (u v : Word) → word silent 1 t ≡ some u → word silent 2 t ≡ some v → u ≡ v

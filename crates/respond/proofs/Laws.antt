@@ -130,9 +130,9 @@ pub held_same : (k : Asked) (M : Table) (bs v : List ℕ) (past room : ℕ) → 
     → reply_to k M v room ≡ reply_to k M bs room
 held_same k M bs v zero room h e = ap (λ (x : List ℕ). reply_to k M x room) (h.all refl)
 held_same k M bs v (suc past) room h e =
-    let some-past : 0 < suc past = omega arith in
-    let m = h.many some-past in
-    many_same k M bs v room (short_or_tree k (suc past) e some-past) m.0 m.1
+    let some_past : 0 < suc past = omega arith in
+    let m = h.many some_past in
+    many_same k M bs v room (short_or_tree k (suc past) e some_past) m.0 m.1
 
 -- The refusal of reading a stream and its image as a tree is that of the word call, and of the tree call.
 word_refused : (M : Table) (s : List ℕ) (room : ℕ) (x : No) → (spelled M.arities s then read_tree M.arities) ≡ refusal x

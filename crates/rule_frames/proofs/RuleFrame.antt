@@ -135,7 +135,7 @@ module _ {F R : List ℕ} {st : Stage} {M : Table} (a : AtRules F R st M) (at en
             pub rule_over : (S : List ℕ) → then < end → end ≤ length F → Stepped F S (text.whole (text.rule_frame M (slice at end F))) (next.Wrong 5)
             rule_over S h l = stepped_left F S _ _ then end taken h l
 
-            module _ (whole : end ≤ then) (next-to : at ≡ st.used + 1) (start : at ≤ end) (inside : end ≤ length F) (kind : get_or F st.used 0 ≡ 3) where
+            module _ (whole : end ≤ then) (next_to : at ≡ st.used + 1) (start : at ≤ end) (inside : end ≤ length F) (kind : get_or F st.used 0 ≡ 3) where
               -- No byte is left over.
               nothing_left : slice then end F ≡ []
               nothing_left = slice_none F then end (omega (arith, r.inside))
@@ -143,7 +143,7 @@ module _ {F R : List ℕ} {st : Stage} {M : Table} (a : AtRules F R st M) (at en
               -- The row's frame stands behind the frames so far.
               frames_with : take end F ≡ head_frames (text.with_row M row) ++ row_frames (M.rows ++ row ∷ [])
               frames_with =
-                  frame_more F st.used at end _ _ 3 (omega arith) inside next-to a.frames kind refl
+                  frame_more F st.used at end _ _ 3 (omega arith) inside next_to a.frames kind refl
                   ∙ ap (λ l. head_frames M ++ row_frames M.rows ++ l)
                   (row_bytes st.head.states st.head.symbols n _ q _ f _ r.rule _ i.read j.read r.read nothing_left)
                   ∙ sym (rows_frames M row)

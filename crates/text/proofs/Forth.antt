@@ -113,15 +113,15 @@ read_lines_lem : (M : Table) → Limited M → read_lines (symbols []) 0 (lines_
 unfolding read_lines lines_of initial_frame
 read_lines_lem M h =
     let last = line_of (4 ∷ []) ++ [] in
-    let from-rows = row_lines M.rows ++ last in
-    let from_start = line_of (initial_frame M) ++ from-rows in
+    let from_rows = row_lines M.rows ++ last in
+    let from_start = line_of (initial_frame M) ++ from_rows in
     let first = with_rows M [] in
     let started : StartLimits first =
     record { some_symbol = h.some_symbol; states = h.states; before = h.before; start = h.made.start; after = h.after } in
     let takes = start first refl refl refl refl started in
     ap (λ t. read_lines (symbols []) 0 (lines_of t)) (write_parts M)
     ∙ read_symbols [] M.arities 0 from_start (omega (arith, h.symbols)) h.arities
-    ∙ read_frame (symbols M.arities) (initial_frame M) (rules first) _ from-rows (initial_bytes first started) takes
+    ∙ read_frame (symbols M.arities) (initial_frame M) (rules first) _ from_rows (initial_bytes first started) takes
     ∙ read_rows M h.states h.symbols [] M.rows _ last (omega (arith, h.rows)) h.made.rows h.short h.made.rising
     ∙ read_frame (rules M) (4 ∷ []) (ended M) _ [] (omega arith, tt) (end M refl refl refl)
 

@@ -76,7 +76,7 @@ module _ {F I S : List ℕ} {at levels : ℕ} {M : Table} {t : Tree} (stands : T
         one_more : (k : ℕ) → j + 1 + k ≡ j + suc k
         one_more k = omega arith
 
-  module _ (g : Walking S at below q M t x j next) (many : ℕ) (told-many : (i : ℕ) (r : Rule) → Encodes x i r → many ≡ length r.rest) where
+  module _ (g : Walking S at below q M t x j next) (many : ℕ) (told_many : (i : ℕ) (r : Rule) → Encodes x i r → many ≡ length r.rest) where
     -- Where no child is left, nothing is lacking, and the tree ends there.
     pub walking_last : many ≤ j → Ends next ≡ walked (lacks M q t at) (at + length (preorder t))
     unfolding lackss preorders
@@ -84,7 +84,7 @@ module _ {F I S : List ℕ} {at levels : ℕ} {M : Table} {t : Tree} (stands : T
       where
         go : (cs : List Child) (ts : Forest) → LeftToWalk S at below q M t x j next cs ts → Ends next ≡ walked (lacks M q t at) (at + length (preorder t))
         go [] ∅ h = let e : at + length (preorder t) ≡ next = omega (arith, h.end) in rw (h.lacking, e)
-        go (c ∷ cs) ts h = absurd (omega (arith, h.kids, told-many h.number h.rule h.holds))
+        go (c ∷ cs) ts h = absurd (omega (arith, h.kids, told_many h.number h.rule h.holds))
         go [] (t₁ ▸ ts) h = absurd (omega (arith, h.trees))
 
     module _ (due : j < many) (s : ℕ) (told_state : (i : ℕ) (r : Rule) → Encodes x i r → j < length r.rest → s ≡ state_no r.rest j) (w : Walk)
@@ -100,7 +100,7 @@ module _ {F I S : List ℕ} {at levels : ℕ} {M : Table} {t : Tree} (stands : T
       walking_next after e = go g.0 g.1 g.2
         where
           go : (cs : List Child) (ts : Forest) → LeftToWalk S at below q M t x j next cs ts → Walking S at below q M t x (j + 1) after
-          go [] ts h = absurd (omega (arith, h.kids, told-many h.number h.rule h.holds))
+          go [] ts h = absurd (omega (arith, h.kids, told_many h.number h.rule h.holds))
           go (c ∷ cs) ∅ h = absurd (omega (arith, h.trees))
           go (c ∷ cs) (t₁ ▸ ts) h =
               let k = child_state c cs (t₁ ▸ ts) h in
@@ -112,7 +112,7 @@ module _ {F I S : List ℕ} {at levels : ℕ} {M : Table} {t : Tree} (stands : T
       walking_lost p e = go g.0 g.1 g.2
         where
           go : (cs : List Child) (ts : Forest) → LeftToWalk S at below q M t x j next cs ts → w ≡ walked (lacks M q t at) (at + length (preorder t))
-          go [] ts h = absurd (omega (arith, h.kids, told-many h.number h.rule h.holds))
+          go [] ts h = absurd (omega (arith, h.kids, told_many h.number h.rule h.holds))
           go (c ∷ cs) ∅ h = absurd (omega (arith, h.trees))
           go (c ∷ cs) (t₁ ▸ ts) h =
               let k = child_state c cs (t₁ ▸ ts) h in

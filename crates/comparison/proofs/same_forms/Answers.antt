@@ -7,12 +7,12 @@ use Rattle.comparison.proofs.Forms.{formed_never, formed_front, formed_short, sa
 use Rattle.comparison.proofs.same_forms.Goals as goal
 
 -- A room of zeros has as many bytes as a text may.
-room-long : length {A = ℕ} (replicate 32768 0) ≡ text_most
-room-long = length-replicate {A = ℕ} 32768 0
+room_long : length {A = ℕ} (replicate 32768 0) ≡ text_most
+room_long = length-replicate {A = ℕ} 32768 0
 
 pub returns-in_default : goal.returns-in_default
 returns-in_default c =
-    λ M N o E p D. absurd (formed_never o.limited _ c.form_opened-a.new.room room-long c.form_opened-a.result (c.form_opened-a.ensures M o
+    λ M N o E p D. absurd (formed_never o.limited _ c.form_opened-a.new.room room_long c.form_opened-a.result (c.form_opened-a.ensures M o
     E) _ c.in_default.is)
 
 pub returns : goal.returns
@@ -20,7 +20,7 @@ returns c =
     λ M N o E p D.
     let f = c.form_opened-a.ensures M o E in
     let g = c.form_opened-b.ensures N p D in
-    let first = formed_front o.limited _ c.form_opened-a.new.room room-long c.form_opened-a.result f _ c.in-Form.is in
-    let second = formed_front p.limited _ c.form_opened-b.new.room room-long c.form_opened-b.result g _ c.in-Form-b.is in
-    let short = formed_short o.limited _ c.form_opened-a.new.room room-long c.form_opened-a.result f _ c.in-Form.is in
+    let first = formed_front o.limited _ c.form_opened-a.new.room room_long c.form_opened-a.result f _ c.in-Form.is in
+    let second = formed_front p.limited _ c.form_opened-b.new.room room_long c.form_opened-b.result g _ c.in-Form-b.is in
+    let short = formed_short o.limited _ c.form_opened-a.new.room room_long c.form_opened-a.result f _ c.in-Form.is in
     same_form o.limited p.limited f g (c.same_bytes.ensures _ _ first second short)

@@ -22,19 +22,19 @@ first_after-first-requires c =
     let given : child.IsChild c.args.frames.now c.loop-left.next c.args.end c.in-Got.state c.in-Got.after c.in-Got.more
     (one_child c.args.states (slice c.loop-left.next c.args.end c.args.frames.now)) = child.got_child c.args.frames.now c.loop-left.next c.args.end _ _ _ _
     c.child-got.result c.in-Got.is c.child-got.ensures in
-    let state-small : c.in-Got.state < 64 = let i = given in
+    let state_small : c.in-Got.state < 64 = let i = given in
     omega (arith, child.child_below c.args.states _ i.child _ i.read, i.state, c.requires.states_bound.0) in
-    (c.loop-left.invariant.first_small, state-small)
+    (c.loop-left.invariant.first_small, state_small)
 
 pub rest_after-rest-requires : goal.rest_after-rest-requires
 rest_after-rest-requires c =
     let given : child.IsChild c.args.frames.now c.loop-left.next c.args.end c.in-Got.state c.in-Got.after c.in-Got.more
     (one_child c.args.states (slice c.loop-left.next c.args.end c.args.frames.now)) = child.got_child c.args.frames.now c.loop-left.next c.args.end _ _ _ _
     c.child-got.result c.in-Got.is c.child-got.ensures in
-    let state-small : c.in-Got.state < 64 = let i = given in
+    let state_small : c.in-Got.state < 64 = let i = given in
     omega (arith, child.child_below c.args.states _ i.child _ i.read, i.state, c.requires.states_bound.0) in
-    let rest-small : c.loop-left.rest < 1024 ^ 3 = c.loop-left.invariant.room.four (omega (arith, c.loop-left.invariant.number, c.requires.states_bound.1)) in
-    (rest-small, state-small)
+    let rest_small : c.loop-left.rest < 1024 ^ 3 = c.loop-left.invariant.room.four (omega (arith, c.loop-left.invariant.number, c.requires.states_bound.1)) in
+    (rest_small, state_small)
 
 pub loop-left-preserved : goal.loop-left-preserved
 loop-left-preserved c =

@@ -16,33 +16,33 @@ returns-in_default c =
 
 pub returns-in_default-u0 : goal.returns-in_default-u0
 returns-in_default-u0 c =
-    let count-read : number.IsNumber c.args.frames.now c.args.at c.args.end c.in-Got.states c.in-Got.before
+    let count_read : number.IsNumber c.args.frames.now c.args.at c.args.end c.in-Got.states c.in-Got.before
     (text.within 1 64 (slice c.args.at c.args.end c.args.frames.now)) = number.got_number c.args.frames.now c.args.at c.args.end _ _ _ c.within-count.result
     c.in-Got.is c.within-count.ensures in
     λ R ks d kind.
     law.word_stops c.args.frames.now R _ c.args.end c.in_default-u0.field-0 _ c.word-u0.result c.fault-in_default-u0.result c.in_default-u0.is
     c.fault-in_default-u0.ensures _ c.word-u0.ensures
-    (start.refuse_before ks (count-read) c.in_default-u0.field-0)
+    (start.refuse_before ks (count_read) c.in_default-u0.field-0)
 
 pub returns-in_default-initial : goal.returns-in_default-initial
 returns-in_default-initial c =
-    let count-read : number.IsNumber c.args.frames.now c.args.at c.args.end c.in-Got.states c.in-Got.before
+    let count_read : number.IsNumber c.args.frames.now c.args.at c.args.end c.in-Got.states c.in-Got.before
     (text.within 1 64 (slice c.args.at c.args.end c.args.frames.now)) = number.got_number c.args.frames.now c.args.at c.args.end _ _ _ c.within-count.result
     c.in-Got.is c.within-count.ensures in
-    let before-read : word.IsWord c.args.frames.now c.in-Got.before c.args.end c.in-Got-u0.value c.in-Got-u0.state
+    let before_read : word.IsWord c.args.frames.now c.in-Got.before c.args.end c.in-Got-u0.value c.in-Got-u0.state
     (text.text (slice c.in-Got.before c.args.end c.args.frames.now)) = word.got_word c.args.frames.now c.in-Got.before c.args.end _ _ _ c.word-u0.result
     c.in-Got-u0.is c.word-u0.ensures in
     λ R ks d kind.
     law.number_stops c.args.frames.now R _ c.args.end c.in_default-initial.field-0 _ c.below-initial.result c.fault-in_default-initial.result
     c.in_default-initial.is c.fault-in_default-initial.ensures _ c.below-initial.ensures
-    (start.refuse_state ks (count-read) (before-read) c.in_default-initial.field-0)
+    (start.refuse_state ks (count_read) (before_read) c.in_default-initial.field-0)
 
 pub returns-in_default-u1 : goal.returns-in_default-u1
 returns-in_default-u1 c =
-    let count-read : number.IsNumber c.args.frames.now c.args.at c.args.end c.in-Got.states c.in-Got.before
+    let count_read : number.IsNumber c.args.frames.now c.args.at c.args.end c.in-Got.states c.in-Got.before
     (text.within 1 64 (slice c.args.at c.args.end c.args.frames.now)) = number.got_number c.args.frames.now c.args.at c.args.end _ _ _ c.within-count.result
     c.in-Got.is c.within-count.ensures in
-    let before-read : word.IsWord c.args.frames.now c.in-Got.before c.args.end c.in-Got-u0.value c.in-Got-u0.state
+    let before_read : word.IsWord c.args.frames.now c.in-Got.before c.args.end c.in-Got-u0.value c.in-Got-u0.state
     (text.text (slice c.in-Got.before c.args.end c.args.frames.now)) = word.got_word c.args.frames.now c.in-Got.before c.args.end _ _ _ c.word-u0.result
     c.in-Got-u0.is c.word-u0.ensures in
     let state_read : number.IsNumber c.args.frames.now c.in-Got-u0.state c.args.end c.in-Got-initial.start c.in-Got-initial.after
@@ -51,14 +51,14 @@ returns-in_default-u1 c =
     λ R ks d kind.
     law.word_stops c.args.frames.now R _ c.args.end c.in_default-u1.field-0 _ c.word-u1.result c.fault-in_default-u1.result c.in_default-u1.is
     c.fault-in_default-u1.ensures _ c.word-u1.ensures
-    (start.refuse_after ks (count-read) (before-read) (state_read) c.in_default-u1.field-0)
+    (start.refuse_after ks (count_read) (before_read) (state_read) c.in_default-u1.field-0)
 
 pub returns-then-next-end : goal.returns-then-next-end
 returns-then-next-end c =
-    let count-read : number.IsNumber c.args.frames.now c.args.at c.args.end c.in-Got.states c.in-Got.before
+    let count_read : number.IsNumber c.args.frames.now c.args.at c.args.end c.in-Got.states c.in-Got.before
     (text.within 1 64 (slice c.args.at c.args.end c.args.frames.now)) = number.got_number c.args.frames.now c.args.at c.args.end _ _ _ c.within-count.result
     c.in-Got.is c.within-count.ensures in
-    let before-read : word.IsWord c.args.frames.now c.in-Got.before c.args.end c.in-Got-u0.value c.in-Got-u0.state
+    let before_read : word.IsWord c.args.frames.now c.in-Got.before c.args.end c.in-Got-u0.value c.in-Got-u0.state
     (text.text (slice c.in-Got.before c.args.end c.args.frames.now)) = word.got_word c.args.frames.now c.in-Got.before c.args.end _ _ _ c.word-u0.result
     c.in-Got-u0.is c.word-u0.ensures in
     let state_read : number.IsNumber c.args.frames.now c.in-Got-u0.state c.args.end c.in-Got-initial.start c.in-Got-initial.after
@@ -68,14 +68,14 @@ returns-then-next-end c =
     (text.text (slice c.in-Got-initial.after c.args.end c.args.frames.now)) = word.got_word c.args.frames.now c.in-Got-initial.after c.args.end _ _ _
     c.word-u1.result c.in-Got-u1.is c.word-u1.ensures in
     λ R ks d kind.
-    start.start_over ks (count-read) (before-read) (state_read) (after_read) R c.if-next-end.true c.requires.2
+    start.start_over ks (count_read) (before_read) (state_read) (after_read) R c.if-next-end.true c.requires.2
 
 pub returns : goal.returns
 returns c =
-    let count-read : number.IsNumber c.args.frames.now c.args.at c.args.end c.in-Got.states c.in-Got.before
+    let count_read : number.IsNumber c.args.frames.now c.args.at c.args.end c.in-Got.states c.in-Got.before
     (text.within 1 64 (slice c.args.at c.args.end c.args.frames.now)) = number.got_number c.args.frames.now c.args.at c.args.end _ _ _ c.within-count.result
     c.in-Got.is c.within-count.ensures in
-    let before-read : word.IsWord c.args.frames.now c.in-Got.before c.args.end c.in-Got-u0.value c.in-Got-u0.state
+    let before_read : word.IsWord c.args.frames.now c.in-Got.before c.args.end c.in-Got-u0.value c.in-Got-u0.state
     (text.text (slice c.in-Got.before c.args.end c.args.frames.now)) = word.got_word c.args.frames.now c.in-Got.before c.args.end _ _ _ c.word-u0.result
     c.in-Got-u0.is c.word-u0.ensures in
     let state_read : number.IsNumber c.args.frames.now c.in-Got-u0.state c.args.end c.in-Got-initial.start c.in-Got-initial.after
@@ -85,5 +85,5 @@ returns c =
     (text.text (slice c.in-Got-initial.after c.args.end c.args.frames.now)) = word.got_word c.args.frames.now c.in-Got-initial.after c.args.end _ _ _
     c.word-u1.result c.in-Got-u1.is c.word-u1.ensures in
     λ R ks d kind.
-    start.start_next ks (count-read) (before-read) (state_read) (after_read) d c.if-next-end.false c.requires.0 c.requires.2 kind
+    start.start_next ks (count_read) (before_read) (state_read) (after_read) d c.if-next-end.false c.requires.0 c.requires.2 kind
     R _ c.started.ensures

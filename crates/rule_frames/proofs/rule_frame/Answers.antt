@@ -37,23 +37,23 @@ overflow_mul-key c =
     let state_read : number.IsNumber c.args.frames.now c.args.at c.args.end c.in-Got.q c.in-Got.next (text.below c.args.st.head.states
     (slice c.args.at c.args.end c.args.frames.now)) =
     number.got_number c.args.frames.now c.args.at c.args.end _ _ _ c.below-first.result c.in-Got.is c.below-first.ensures in
-    let state-small : c.in-Got.q < 64 =
+    let state_small : c.in-Got.q < 64 =
     omega (arith, (below_inv c.args.st.head.states _ _ _ (state_read).read).0, c.requires.states_bound.0) in
-    omega (arith, state-small)
+    omega (arith, state_small)
 
 pub overflow_add-key : goal.overflow_add-key
 overflow_add-key c =
     let state_read : number.IsNumber c.args.frames.now c.args.at c.args.end c.in-Got.q c.in-Got.next (text.below c.args.st.head.states
     (slice c.args.at c.args.end c.args.frames.now)) =
     number.got_number c.args.frames.now c.args.at c.args.end _ _ _ c.below-first.result c.in-Got.is c.below-first.ensures in
-    let state-small : c.in-Got.q < 64 =
+    let state_small : c.in-Got.q < 64 =
     omega (arith, (below_inv c.args.st.head.states _ _ _ (state_read).read).0, c.requires.states_bound.0) in
     let symbol_read : number.IsNumber c.args.frames.now c.in-Got.next c.args.end c.in-Got-sym.f c.in-Got-sym.from (text.below
     c.args.st.head.symbols (slice c.in-Got.next c.args.end c.args.frames.now)) =
     number.got_number c.args.frames.now c.in-Got.next c.args.end _ _ _ c.below-sym.result c.in-Got-sym.is c.below-sym.ensures in
     let symbol_small : c.in-Got-sym.f < 64 =
     omega (arith, (below_inv c.args.st.head.symbols _ _ _ (symbol_read).read).0, c.requires.states_bound.1) in
-    omega (arith, state-small, symbol_small)
+    omega (arith, state_small, symbol_small)
 
 pub returns-then-key-st-clause-stepped : goal.returns-then-key-st-clause-stepped
 returns-then-key-st-clause-stepped c =
@@ -135,28 +135,28 @@ row_number-requires c =
     let state_read : number.IsNumber c.args.frames.now c.args.at c.args.end c.in-Got.q c.in-Got.next (text.below c.args.st.head.states
     (slice c.args.at c.args.end c.args.frames.now)) =
     number.got_number c.args.frames.now c.args.at c.args.end _ _ _ c.below-first.result c.in-Got.is c.below-first.ensures in
-    let state-small : c.in-Got.q < 64 =
+    let state_small : c.in-Got.q < 64 =
     omega (arith, (below_inv c.args.st.head.states _ _ _ (state_read).read).0, c.requires.states_bound.0) in
     let symbol_read : number.IsNumber c.args.frames.now c.in-Got.next c.args.end c.in-Got-sym.f c.in-Got-sym.from (text.below
     c.args.st.head.symbols (slice c.in-Got.next c.args.end c.args.frames.now)) =
     number.got_number c.args.frames.now c.in-Got.next c.args.end _ _ _ c.below-sym.result c.in-Got-sym.is c.below-sym.ensures in
     let symbol_small : c.in-Got-sym.f < 64 =
     omega (arith, (below_inv c.args.st.head.symbols _ _ _ (symbol_read).read).0, c.requires.states_bound.1) in
-    (omega (arith, (symbol_read).inside, c.requires.at_value.2), symbol_small, state-small)
+    (omega (arith, (symbol_read).inside, c.requires.at_value.2), symbol_small, state_small)
 
 pub behind_rule-requires : goal.behind_rule-requires
 behind_rule-requires c =
     let state_read : number.IsNumber c.args.frames.now c.args.at c.args.end c.in-Got.q c.in-Got.next (text.below c.args.st.head.states
     (slice c.args.at c.args.end c.args.frames.now)) =
     number.got_number c.args.frames.now c.args.at c.args.end _ _ _ c.below-first.result c.in-Got.is c.below-first.ensures in
-    let state-small : c.in-Got.q < 64 =
+    let state_small : c.in-Got.q < 64 =
     omega (arith, (below_inv c.args.st.head.states _ _ _ (state_read).read).0, c.requires.states_bound.0) in
     let symbol_read : number.IsNumber c.args.frames.now c.in-Got.next c.args.end c.in-Got-sym.f c.in-Got-sym.from (text.below
     c.args.st.head.symbols (slice c.in-Got.next c.args.end c.args.frames.now)) =
     number.got_number c.args.frames.now c.in-Got.next c.args.end _ _ _ c.below-sym.result c.in-Got-sym.is c.below-sym.ensures in
     let symbol_small : c.in-Got-sym.f < 64 =
     omega (arith, (below_inv c.args.st.head.symbols _ _ _ (symbol_read).read).0, c.requires.states_bound.1) in
-    (c.if-count-ge-RULES.false, omega (arith, state-small, symbol_small))
+    (c.if-count-ge-RULES.false, omega (arith, state_small, symbol_small))
 
 pub returns-clause-stepped : goal.returns-clause-stepped
 returns-clause-stepped c =

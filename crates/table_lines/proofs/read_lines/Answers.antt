@@ -17,10 +17,10 @@ loop-at-init c =
 
 pub returns-in_default : goal.returns-in_default
 returns-in_default c =
-    let line-spoiled : (scan (drop c.loop-at.at c.args.text.now) ≡ bad) × FrontKept c.loop-at.st.used c.loop-at.bytes c.next_line-line.new.frames =
+    let line_spoiled : (scan (drop c.loop-at.at c.args.text.now) ≡ bad) × FrontKept c.loop-at.st.used c.loop-at.bytes c.next_line-line.new.frames =
     bad_taken c.args.text.now _ c.loop-at.at c.loop-at.st.used c.loop-at.bytes c.next_line-line.new.frames c.next_line-line.result
     c.in_default.is c.next_line-line.ensures in
-    law.refused_reads _ _ _ 2 _ c.refuse.result (line_bad c.loop-at.invariant c.loop-at-test.true (line-spoiled).0) c.refuse.ensures
+    law.refused_reads _ _ _ 2 _ c.refuse.result (line_bad c.loop-at.invariant c.loop-at-test.true (line_spoiled).0) c.refuse.ensures
 
 pub returns-in_default-after : goal.returns-in_default-after
 returns-in_default-after c =

@@ -11,20 +11,20 @@ use Rattle.tree_record_call.proofs.check.Goals as goal
 
 pub returns-in-Fit : goal.returns-in-Fit
 returns-in-Fit c =
-    let levels-told : (Meant c.args.frames.now c.args.numbers.now (λ M. last_symbol M.arities ≡ given c.args.last
+    let counted_levels : (Meant c.args.frames.now c.args.numbers.now (λ M. last_symbol M.arities ≡ given c.args.last
     → levels_told c.levels.result ≡ image_told M.arities c.args.last c.args.tree.now)) =
     λ M o e.
     levels_image M.arities c.args.last c.args.tree.now c.levels.result (omega (arith, c.ranges.last)) (omega (arith, c.requires.0)) e
     (c.is_image.ensures.if_true c.if-not-is_image.false)
     (λ r s l i. c.levels.ensures M.arities c.args.last r s l (omega arith) i (omega (arith, c.requires.1, front_long c.args.tree.now))) in
-    λ M o e. sym (ap levels_told c.in-Fit.is) ∙ levels-told M o e
+    λ M o e. sym (ap levels_told c.in-Fit.is) ∙ counted_levels M o e
 
 pub returns-in-Deeper : goal.returns-in-Deeper
 returns-in-Deeper c =
-    let levels-told : (Meant c.args.frames.now c.args.numbers.now (λ M. last_symbol M.arities ≡ given c.args.last
+    let counted_levels : (Meant c.args.frames.now c.args.numbers.now (λ M. last_symbol M.arities ≡ given c.args.last
     → levels_told c.levels.result ≡ image_told M.arities c.args.last c.args.tree.now)) =
     λ M o e.
     levels_image M.arities c.args.last c.args.tree.now c.levels.result (omega (arith, c.ranges.last)) (omega (arith, c.requires.0)) e
     (c.is_image.ensures.if_true c.if-not-is_image.false)
     (λ r s l i. c.levels.ensures M.arities c.args.last r s l (omega arith) i (omega (arith, c.requires.1, front_long c.args.tree.now))) in
-    λ M o e. sym (ap levels_told c.in-Deeper.is) ∙ levels-told M o e
+    λ M o e. sym (ap levels_told c.in-Deeper.is) ∙ counted_levels M o e
