@@ -78,6 +78,10 @@ pub record FrameThere (F : List ℕ) (st : Stage) (n : ℕ) : Type 0 where
   pub some : 0 < n
   pub inside : st.used + n ≤ length F
 
+-- It does where the bytes that an opened table has are not used up.
+pub frame_there : {F : List ℕ} {st : Stage} {n : ℕ} → (n ≡ 0 → ⊥) → st.used + n ≤ 16384 → length F ≡ 16448 → FrameThere F st n
+frame_there some room long = record { some = omega arith; inside = omega arith }
+
 module _ {F : List ℕ} {st : Stage} {n : ℕ} (there : FrameThere F st n) where
   -- The frame's kind, and its fields.
   abbrev kind : ℕ

@@ -1,4 +1,4 @@
--- `put_no` meets its contract: at each turn the numbers up to i are put. The measure is how many are left.
+-- `put_no` meets its contract: at each turn the numbers up to i are put.
 use mathlib.Core.Path.{ap}
 use lib.Seq.{take_all}
 use Rattle.answers.specs.Lines.{blanked}

@@ -1,4 +1,4 @@
--- `least_state` meets its contract. Invariant: the search from q on finds what the whole search finds.
+-- `least_state` meets its contract.
 use native.Mathlib.Omega.{arith}
 use Rattle.checks.specs.Checks.{passes_at}
 use Rattle.checks.proofs.Tests.{least_on, least_here, least_end}

@@ -1,4 +1,4 @@
--- `all_blank` meets its contract. Invariant: something is kept for each of the first j children.
+-- `all_blank` meets its contract.
 use native.Mathlib.Omega.{arith}
 use mathlib.Core.Path.{sym, ap, ◌∙◌}
 use Prim.Native.Nat.{◌<◌}

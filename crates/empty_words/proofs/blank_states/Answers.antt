@@ -1,4 +1,4 @@
--- `blank_states` meets its contract. Invariant: the states from place i on were tried.
+-- `blank_states` meets its contract.
 use native.Mathlib.Omega.{arith}
 use mathlib.Core.Path.{◌∙◌}
 use Rattle.summary.proofs.Growing.{grown_then, grown_most}

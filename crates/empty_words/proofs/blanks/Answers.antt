@@ -1,4 +1,4 @@
--- `blanks` meets its contract. Invariant: what is told is true. The measure is what is left to be known.
+-- `blanks` meets its contract.
 use native.Mathlib.Omega.{arith}
 use mathlib.Core.Path.{◌∙◌}
 use Rattle.summary.proofs.Growing.{grown_less}

@@ -1,4 +1,4 @@
--- `has_blank` meets its contract. Invariant: no rule of the state before number i is such a rule.
+-- `has_blank` meets its contract.
 use native.Mathlib.Omega.{arith}
 use Rattle.words.proofs.Told.{told_yes, told_no}
 use Rattle.empty_words.proofs.Rules.{none_more, one_found, none_found}

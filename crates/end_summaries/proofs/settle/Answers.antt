@@ -1,4 +1,4 @@
--- `settle` meets its contract. Invariant: what was witnessed is so still, and what was told. The measure is what is left to be known.
+-- `settle` meets its contract.
 use native.Mathlib.Omega.{arith}
 use mathlib.Core.Path.{◌∙◌}
 use Rattle.summary.specs.Codes.{side_of}

@@ -6,6 +6,12 @@ use Rattle.fields.proofs.Numbers as field
 use Rattle.head_frames.proofs.StepFrames as law
 use Rattle.head_frames.proofs.Symbols as symbol
 use Rattle.head_frames.proofs.symbol_frame.Goals as goal
+use Rattle.head_frames.proofs.symbol_frame.Goals.{In-Got}
+
+-- What the arity gives.
+arity_read : (c : In-Got) →
+    field.IsNumber c.args.frames.now c.args.at c.args.end c.in-Got.value c.in-Got.next (text.within 0 4 (slice c.args.at c.args.end c.args.frames.now))
+arity_read c = field.got_number c.args.frames.now c.args.at c.args.end _ _ _ c.within-arity.result c.in-Got.is c.within-arity.ensures
 
 pub returns-then-symbols-ge-SYMBOLS : goal.returns-then-symbols-ge-SYMBOLS
 returns-then-symbols-ge-SYMBOLS c =
@@ -20,16 +26,12 @@ returns-in_default c =
 
 pub returns-then-next-end : goal.returns-then-next-end
 returns-then-next-end c =
-    let arity_read : field.IsNumber c.args.frames.now c.args.at c.args.end c.in-Got.value c.in-Got.next
-    (text.within 0 4 (slice c.args.at c.args.end c.args.frames.now)) = field.got_number c.args.frames.now c.args.at c.args.end _ _ _ c.within-arity.result
-    c.in-Got.is c.within-arity.ensures in
-    λ R ks d kind. symbol.symbol_over d c.args.at c.args.end c.if-symbols-ge-SYMBOLS.false (arity_read) R c.if-next-end.true c.requires.2
+    let here = goal.at.returns-then-next-end c in
+    λ R ks d kind. symbol.symbol_over d c.args.at c.args.end c.if-symbols-ge-SYMBOLS.false (arity_read here.In-Got) R c.if-next-end.true c.requires.2
 
 pub returns : goal.returns
 returns c =
-    let arity_read : field.IsNumber c.args.frames.now c.args.at c.args.end c.in-Got.value c.in-Got.next
-    (text.within 0 4 (slice c.args.at c.args.end c.args.frames.now)) = field.got_number c.args.frames.now c.args.at c.args.end _ _ _ c.within-arity.result
-    c.in-Got.is c.within-arity.ensures in
+    let here = goal.at.returns c in
     λ R ks d kind.
-    symbol.symbol_next d c.args.at c.args.end c.if-symbols-ge-SYMBOLS.false (arity_read) c.if-next-end.false c.requires.0 c.requires.2 kind
+    symbol.symbol_next d c.args.at c.args.end c.if-symbols-ge-SYMBOLS.false (arity_read here.In-Got) c.if-next-end.false c.requires.0 c.requires.2 kind
     R _ refl refl refl

@@ -1,5 +1,4 @@
--- `feed_all` meets its contract. The loop's invariant: the characters before `taken` are taken, and none is a line feed.
--- The measure is what is left of the piece. Assumes nothing.
+-- `feed_all` meets its contract.
 use native.Mathlib.Omega.{arith}
 use borrow.Author.Rules.{rules}
 use Rattle.hexline.proofs.Laws as law

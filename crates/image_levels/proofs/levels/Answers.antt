@@ -1,5 +1,4 @@
--- `levels` meets its contract. The loop's invariant: the levels on the stack tell of the bytes that are left what is told of the whole.
--- The measure is how many bytes are left. Assumes nothing.
+-- `levels` meets its contract.
 use native.Mathlib.Omega.{arith}
 use borrow.Author.Rules.{rules}
 use Rattle.image_levels.proofs.Steps.{climbing_some, climbing_free, climbing_byte}

@@ -1,4 +1,4 @@
--- `put_all_refused` meets its contract: at each turn the counts up to i are put. The measure is how many are left.
+-- `put_all_refused` meets its contract: at each turn the counts up to i are put.
 use Rattle.line_counts.specs.Closing.{refused_from}
 use Rattle.output.proofs.Queues.{queued_none, queued_as, queued_then}
 use Rattle.line_counts.proofs.Texts.{refused_next}

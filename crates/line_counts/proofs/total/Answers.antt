@@ -1,4 +1,4 @@
--- `total` meets its contract: at each turn the counts up to i are summed. The measure is how many are left.
+-- `total` meets its contract: at each turn the counts up to i are summed.
 use mathlib.Core.Path.{refl}
 use borrow.Author.Rules.{rules}
 use Rattle.line_counts.specs.Counts.{sum}

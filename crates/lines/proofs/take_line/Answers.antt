@@ -1,4 +1,4 @@
--- `take_line` meets its contract. The loop's invariant: the first n pairs are decoded. The measure is what is left of the pairs. Assumes nothing.
+-- `take_line` meets its contract.
 use mathlib.Core.List.{List}
 use Prim.Native.Nat.{ℕ, ◌+◌, ◌*◌}
 use native.Mathlib.Omega.{arith}

@@ -1,5 +1,4 @@
--- `measure` meets its contract. The loop's invariant: what waits decides the whole and is owed trees by it. The measure is how many symbols are left.
--- Assumes nothing.
+-- `measure` meets its contract.
 use mathlib.Core.Path.{refl, subst}
 use Prim.Native.Nat.{ℕ}
 use borrow.Author.Rules.{rules}
@@ -8,6 +7,17 @@ use Rattle.waiting.specs.Waiting.{Usual}
 use Rattle.measure.proofs.Turn.{not_measurable, measuring_first, measuring_next, measuring_last}
 use Rattle.measure.proofs.Turn.{KeptAt, measuring_unusual, measuring_state, measuring_lacking, measuring_early}
 use Rattle.measure.proofs.measure.Goals as goal
+use Rattle.measure.proofs.measure.Goals.{After-kept_for_full-x, Else-not-usual}
+
+-- What comes next can be looked up.
+met : (c : Else-not-usual) →
+    Usual c.wide-f.result c.loop-at.next c.loop-at.top
+met c = c.usual.ensures.if_true c.if-not-usual.false
+
+-- What is kept for the number that comes next and its symbol.
+kept : (c : After-kept_for_full-x) →
+    KeptAt c.args.numbers.now c.loop-at.next (get_or c.args.tree.now c.loop-at.at 0) c.kept_for_full-x.result
+kept c = subst (λ (f : ℕ). KeptAt c.args.numbers.now c.loop-at.next f c.kept_for_full-x.result) c.wide-f.ensures.0 c.kept_for_full-x.ensures
 
 pub returns-then-not-ready-clause-by_index : goal.returns-then-not-ready-clause-by_index
 returns-then-not-ready-clause-by_index c =
@@ -25,22 +35,17 @@ returns-then-not-usual-clause-by_index c =
 
 pub returns-then-x-eq0-clause-by_index : goal.returns-then-x-eq0-clause-by_index
 returns-then-x-eq0-clause-by_index c =
-    let met : Usual c.wide-f.result c.loop-at.next c.loop-at.top =
-    c.usual.ensures.if_true c.if-not-usual.false in
-    let kept : KeptAt c.args.numbers.now c.loop-at.next (get_or c.args.tree.now c.loop-at.at 0) c.kept_for_full-x.result =
-    subst (λ (f : ℕ). KeptAt c.args.numbers.now c.loop-at.next f c.kept_for_full-x.result) c.wide-f.ensures.0 c.kept_for_full-x.ensures in
-    let h = (met).waits in
-    λ F M o. measuring_lacking c.loop-at.invariant F M o h _ (kept F M o (measuring_state c.loop-at.invariant F M o h)) c.if-x-eq0.true
+    let here = goal.at.returns-then-x-eq0-clause-by_index c in
+    let h = (met here.Else-not-usual).waits in
+    λ F M o. measuring_lacking c.loop-at.invariant F M o h _ (kept here.After-kept_for_full-x F M o (measuring_state c.loop-at.invariant F M o h))
+    c.if-x-eq0.true
 
 pub loop-at-preserved : goal.loop-at-preserved
 loop-at-preserved c =
-    let met : Usual c.wide-f.result c.loop-at.next c.loop-at.top =
-    c.usual.ensures.if_true c.if-not-usual.false in
-    let kept : KeptAt c.args.numbers.now c.loop-at.next (get_or c.args.tree.now c.loop-at.at 0) c.kept_for_full-x.result =
-    subst (λ (f : ℕ). KeptAt c.args.numbers.now c.loop-at.next f c.kept_for_full-x.result) c.wide-f.ensures.0 c.kept_for_full-x.ensures in
+    let here = goal.at.loop-at-preserved c in
     measuring_next c.loop-at.invariant _ c.loop-at-test.true
-    (subst (λ (f : ℕ). Usual f c.loop-at.next c.loop-at.top) c.wide-f.ensures.0 (met))
-    (kept) c.if-x-eq0.false
+    (subst (λ (f : ℕ). Usual f c.loop-at.next c.loop-at.top) c.wide-f.ensures.0 (met here.Else-not-usual))
+    (kept here.After-kept_for_full-x) c.if-x-eq0.false
     (record {
       planned = c.plan_of.ensures;
       letters = c.letters_in-sum.result;

@@ -1,4 +1,4 @@
--- `take` meets its contract: at each turn the lines that end before `at` are answered. The measure is how many characters are left.
+-- `take` meets its contract: at each turn the lines that end before `at` are answered.
 use mathlib.Core.Path.{refl, ◌∙◌}
 use native.Mathlib.Omega.{arith}
 use Rattle.pieces.proofs.Pieces.{so_far_none, so_far_room, so_far_all}

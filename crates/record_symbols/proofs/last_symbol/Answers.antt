@@ -1,4 +1,4 @@
--- `last_symbol` meets its contract. The loop's invariant: looking from i on tells what is told of the whole list.
+-- `last_symbol` meets its contract.
 use mathlib.Core.Path.{sym, ◌∙◌}
 use native.Mathlib.Omega.{arith}
 use Rattle.record_symbols.proofs.Lasts as law

@@ -1,4 +1,4 @@
--- `rule_value` meets its contract. Invariant: what is gathered, beside the children that are left, is the rule's summary.
+-- `rule_value` meets its contract.
 use native.Mathlib.Omega.{arith}
 use mathlib.Core.Path.{ap, ◌∙◌}
 use Rattle.summary.specs.Codes.{side_of, decode}

@@ -1,5 +1,4 @@
--- `shape::tree_at` meets its contract. The cycle's measure is the levels allowed. The loop's invariant: whatever is right for the trees that remain
--- is right for the whole tree, and the next place is within the bytes. Its measure is the number of trees that remain. Assumes nothing.
+-- `shape::tree_at` meets its contract.
 use mathlib.Core.Path.{subst}
 use Prim.Native.Nat.{◌-◌, ◌<◌}
 use native.Mathlib.Omega.{arith}

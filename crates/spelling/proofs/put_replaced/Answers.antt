@@ -1,4 +1,4 @@
--- `put_replaced` meets its contract. The loop's invariant: the first i bytes, one of them replaced, stand at the room's front.
+-- `put_replaced` meets its contract.
 use mathlib.Core.Path.{ap, ◌∙◌}
 use mathlib.Core.List.{List}
 use Prim.Native.Nat.{ℕ}

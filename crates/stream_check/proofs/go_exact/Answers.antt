@@ -1,4 +1,4 @@
--- `go_exact` meets its contract. The loop's invariant: what is told from byte i on, with so many elements open, is told of all the bytes.
+-- `go_exact` meets its contract.
 use mathlib.Core.Path.{sym, ap, ◌∙◌}
 use mathlib.Core.Bool.{true}
 use Rattle.stream_check.specs.StreamTold.{marks_told}

@@ -1,5 +1,4 @@
--- `count_on` meets its contract. The loop's invariant: where labels alone have moved the index at which all would be closed, the elements
--- that are open are as many as it is ahead. Assumes nothing.
+-- `count_on` meets its contract.
 use native.Mathlib.Omega.{arith}
 use Rattle.stream_count.proofs.Counting as law
 use Rattle.stream_count.proofs.count_on.Goals as goal

@@ -1,5 +1,4 @@
--- `read_lines` meets its contract. The loop's invariant: the lines so far are read, and those that are left decide. The measure is what is left
--- of the text. Names in the answers: `turn` the loop's turn, `whole` where its line was seen to be whole, `s` the beginning. Assumes nothing.
+-- `read_lines` meets its contract.
 use mathlib.Core.Path.{◌≡◌}
 use lib.ListN.{drop}
 use Rattle.lines.specs.Scan.{scan, bad, FrontKept}
@@ -9,6 +8,13 @@ use Rattle.table_lines.proofs.Ends as law
 use Rattle.table_lines.proofs.LineByLine.{up_to_begin, text_end, end_limited}
 use Rattle.table_lines.proofs.LineByLine.{line_bad, line_staged, line_wrong, line_next}
 use Rattle.table_lines.proofs.read_lines.Goals as goal
+use Rattle.table_lines.proofs.read_lines.Goals.{In-Whole}
+
+-- The line is whole, and its bytes are put.
+line_taken : (c : In-Whole) →
+    IsWhole c.args.text.now (scan (drop c.loop-at.at c.args.text.now)) c.loop-at.at c.loop-at.st.used c.in-Whole.n
+    c.in-Whole.next c.loop-at.bytes c.next_line-line.new.frames
+line_taken c = whole_taken _ _ _ _ _ _ _ _ c.next_line-line.result c.in-Whole.is c.next_line-line.ensures
 
 pub loop-at-init : goal.loop-at-init
 loop-at-init c =
@@ -17,17 +23,14 @@ loop-at-init c =
 
 pub returns-in_default : goal.returns-in_default
 returns-in_default c =
-    let line_spoiled : (scan (drop c.loop-at.at c.args.text.now) ≡ bad) × FrontKept c.loop-at.st.used c.loop-at.bytes c.next_line-line.new.frames =
+    let spoiled =
     bad_taken c.args.text.now _ c.loop-at.at c.loop-at.st.used c.loop-at.bytes c.next_line-line.new.frames c.next_line-line.result
     c.in_default.is c.next_line-line.ensures in
-    law.refused_reads _ _ _ 2 _ c.refuse.result (line_bad c.loop-at.invariant c.loop-at-test.true (line_spoiled).0) c.refuse.ensures
+    law.refused_reads _ _ _ 2 _ c.refuse.result (line_bad c.loop-at.invariant c.loop-at-test.true spoiled.0) c.refuse.ensures
 
 pub returns-in_default-after : goal.returns-in_default-after
 returns-in_default-after c =
-    let line_taken : IsWhole c.args.text.now (scan (drop c.loop-at.at c.args.text.now)) c.loop-at.at c.loop-at.st.used c.in-Whole.n
-    c.in-Whole.next c.loop-at.bytes c.next_line-line.new.frames =
-    whole_taken _ _ _ _ _ _ _ _ c.next_line-line.result c.in-Whole.is c.next_line-line.ensures in
-    let w = line_taken in
+    let w = line_taken (goal.at.returns-in_default-after c).In-Whole in
     let wrong = stage.wrong_step _ _ c.in_default-after.field-0 _ c.step-after.result c.in_default-after.is (c.step-after.ensures.stepped
     c.loop-at.invariant.stage (line_staged c.loop-at.invariant w c.requires.in_bounds.1)) in
     law.frame_refused _ _ _ c.in_default-after.field-0 _ c.number_of.result c.step-after.result c.refuse-in_default-after.result
@@ -36,10 +39,7 @@ returns-in_default-after c =
 
 pub loop-at-preserved : goal.loop-at-preserved
 loop-at-preserved c =
-    let line_taken : IsWhole c.args.text.now (scan (drop c.loop-at.at c.args.text.now)) c.loop-at.at c.loop-at.st.used c.in-Whole.n
-    c.in-Whole.next c.loop-at.bytes c.next_line-line.new.frames =
-    whole_taken _ _ _ _ _ _ _ _ c.next_line-line.result c.in-Whole.is c.next_line-line.ensures in
-    let w = line_taken in
+    let w = line_taken (goal.at.loop-at-preserved c).In-Whole in
     let leads = stage.ready_step _ _ c.in-Ready.ready _ c.step-after.result c.in-Ready.is (c.step-after.ensures.stepped
     c.loop-at.invariant.stage (line_staged c.loop-at.invariant w c.requires.in_bounds.1)) in
     line_next c.loop-at.invariant w c.requires.in_bounds.1 _ _ leads c.step-after.ensures.rules_len

@@ -1,5 +1,5 @@
 -- `read_lines` meets its contract. The loop's invariant: the lines so far are read, and those that are left decide. The measure is what is left
--- of the text. Names in the answers: `turn` the loop's turn, `whole` where its line was seen to be whole, `s` the beginning. Assumes nothing.
+-- of the text. Assumes nothing.
 use Prim.Native.Nat.{◌-◌}
 use lib.ListN.{length}
 use Rattle.table_lines.proofs.LineByLine.{ReadUpTo}

@@ -1,4 +1,4 @@
--- `first_from` meets its contract. The loop's invariant: the rules before the i-th are passed. The measure is what is left. Assumes nothing.
+-- `first_from` meets its contract.
 use native.Mathlib.Omega.{arith}
 use Prim.Native.Nat.{◌*◌, ◌/◌, ◌%◌, ◌<◌, ◌≤◌}
 use mathlib.Core.Path.{◌∙◌}

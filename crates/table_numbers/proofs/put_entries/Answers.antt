@@ -1,4 +1,4 @@
--- `put_entries` meets its contract. The loop's invariant: what is kept of the rules from the i-th on is put. The measure is i. Assumes nothing.
+-- `put_entries` meets its contract.
 use native.Mathlib.Omega.{arith}
 use Prim.Native.Nat.{◌+◌, ◌-◌, ◌<◌}
 use mathlib.Core.Path.{◌≡◌, refl, sym}

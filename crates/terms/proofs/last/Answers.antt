@@ -1,4 +1,4 @@
--- `last` meets its contract. The loop's invariant: n letters 20 stand before i. Assumes nothing.
+-- `last` meets its contract.
 use borrow.Author.Rules.{rules}
 use native.Mathlib.Omega.{arith}
 use Rattle.terms.proofs.Spaces as law

@@ -1,4 +1,4 @@
--- `terms_of` meets its contract. The loop's invariant: n is one more than the letters 20 before `at`. Assumes nothing.
+-- `terms_of` meets its contract.
 use borrow.Author.Rules.{rules}
 use mathlib.Core.List.{List}
 use Prim.Native.Nat.{ℕ, ◌+◌}

@@ -1,4 +1,4 @@
--- `whole` meets its contract. The loop's invariant: n letters 20 stand before i. Assumes nothing.
+-- `whole` meets its contract.
 use borrow.Author.Rules.{rules}
 use mathlib.Core.Path.{◌≡◌, ap, ◌∙◌}
 use native.Mathlib.Omega.{arith}

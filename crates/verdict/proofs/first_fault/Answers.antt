@@ -1,4 +1,4 @@
--- `first_fault` meets its contract. Invariant: the checks from this number on judge what all judge.
+-- `first_fault` meets its contract.
 use native.Mathlib.Omega.{arith}
 use mathlib.Core.Path.{◌∙◌}
 use Rattle.verdict.proofs.Order.{from_first, judge_found, judge_next, judge_end}

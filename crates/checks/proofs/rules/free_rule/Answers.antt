@@ -1,4 +1,4 @@
--- `free_rule` meets its contract. Invariant: the children that are left tell what all tell.
+-- `free_rule` meets its contract.
 use native.Mathlib.Omega.{arith}
 use mathlib.Core.Path.{ap, ◌∙◌}
 use Rattle.end_laws.specs.Ends.{stuck}

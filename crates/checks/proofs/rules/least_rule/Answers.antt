@@ -1,4 +1,4 @@
--- `least_rule` meets its contract. Invariant: the search from i on finds what the whole search finds.
+-- `least_rule` meets its contract.
 use native.Mathlib.Omega.{arith}
 use mathlib.Core.Path.{ap, ◌∙◌}
 use lib.ListN.{length, get_elem?}

@@ -1,4 +1,4 @@
--- `add_state` meets its contract. Invariant: the rules of the state from number i on were tried.
+-- `add_state` meets its contract.
 use native.Mathlib.Omega.{arith}
 use Rattle.rule_leaves.proofs.Numbered.{row_state_small}
 use Rattle.summary.proofs.Growing.{grown_none, grown_then, grown_most}

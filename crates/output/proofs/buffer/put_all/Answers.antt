@@ -1,4 +1,4 @@
--- `put_all` meets its contract: at each turn the bytes up to i are put. The measure is how many are left.
+-- `put_all` meets its contract: at each turn the bytes up to i are put.
 use borrow.Author.Rules.{rules}
 use Rattle.output.proofs.Queues.{queued_next}
 use Rattle.output.proofs.buffer.put_all.Goals as goal

@@ -1,4 +1,4 @@
--- `put_hex` meets its contract: at each turn the digits of the bytes up to i are put. The measure is how many bytes are left.
+-- `put_hex` meets its contract: at each turn the digits of the bytes up to i are put.
 use mathlib.Core.Path.{◌≡◌}
 use lib.ListN.{length}
 use borrow.Author.Rules.{rules}

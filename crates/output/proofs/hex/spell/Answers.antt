@@ -1,4 +1,4 @@
--- `spell` meets its contract: at each turn the digits of the first i bytes stand at the front. The measure is how many bytes are left.
+-- `spell` meets its contract: at each turn the digits of the first i bytes stand at the front.
 use mathlib.Core.Path.{refl}
 use native.Mathlib.Omega.{arith}
 use lib.ListN.{length-set}
