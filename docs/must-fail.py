@@ -15,7 +15,7 @@ Each edit below makes a wrong program, or a wrong definition, out of a right one
 Beside each stands the fact that then fails. `rt ci` prints the prover's error on the line `rt: must-fail CRATE/EDIT.edit`.
 
 A contract that allows one result only excludes every program that differs anywhere (the laws for that are named in [CONTRACTS.md](CONTRACTS.md)). \
-So here are the wrong programs that document 01 names and those that look most like sense, each in the smallest crate that can refuse it.
+So here are the wrong programs that the specification names and those that look most like sense, each in the smallest crate that can refuse it.
 
 This page is made by `python3 docs/must-fail.py`, and the gate compares it.
 """

@@ -1,54 +1,52 @@
 // The lines that the programs answer, put into a lent buffer behind the bytes that wait there.
 #![tactic(auto)]
 
-ghost use Rattle.output.specs.Queue.{Queued};
+ghost use Rattle.output.specs.Queue.{TextPut};
 ghost use Rattle.answers.specs.Lines.{no_line, letters_text, word_line, bytes_line};
 
-use output::{Streams, put, put_all, put_hex, put_number};
+use output::Out;
 
 // Puts a refusal: "no", the numbers that tell it, each behind a blank, and a line feed.
-pub fn put_no(to: Streams, numbers: &[u64], out: &mut [u8], used: usize) -> usize
-    ensures { Queued (no_line numbers.now) out.old used out.new result }
+pub fn put_no(numbers: &[u64], out: &mut Out)
+    ensures { TextPut (no_line numbers.now) out.old out.new }
 {
-    let mut at = put_all(to, b"no", out, used);
-    let mut i = 0;
-    while i < numbers.len() {
-        at = put(to, b' ', out, at);
-        at = put_number(to, numbers[i], out, at);
-        i += 1;
+    out.put_all(b"no");
+    for number in numbers {
+        out.put(b' ');
+        out.put_number(*number);
     }
-    put(to, b'\n', out, at)
+    out.put(b'\n');
 }
 
 // Puts the letters of a word behind a blank, where there are any.
-fn put_letters(to: Streams, letters: &[u8], out: &mut [u8], used: usize) -> usize
-    ensures { Queued (letters_text letters.now) out.old used out.new result }
+fn put_letters(letters: &[u8], out: &mut Out)
+    ensures { TextPut (letters_text letters.now) out.old out.new }
 {
-    if letters.len() == 0 {
-        return used;
+    if letters.is_empty() {
+        return;
     }
-    let at = put(to, b' ', out, used);
-    put_hex(to, letters, out, at)
+    out.put(b' ');
+    out.put_hex(letters);
 }
 
 // Puts a word: "word", its length, its number of terms and its letters, and a line feed.
-pub fn put_word(to: Streams, terms: usize, letters: &[u8], out: &mut [u8], used: usize) -> usize
-    ensures { Queued (word_line terms letters.now) out.old used out.new result }
+pub fn put_word(terms: usize, letters: &[u8], out: &mut Out)
+    ensures { TextPut (word_line terms letters.now) out.old out.new }
 {
-    let at = put_all(to, b"word ", out, used);
-    let at = put_number(to, letters.len() as u64, out, at);
-    let at = put(to, b' ', out, at);
-    let at = put_number(to, terms as u64, out, at);
-    let at = put_letters(to, letters, out, at);
-    put(to, b'\n', out, at)
+    out.put_all(b"word ");
+    out.put_number(letters.len() as u64);
+    out.put(b' ');
+    out.put_number(terms as u64);
+    put_letters(letters, out);
+    out.put(b'\n');
 }
 
 // Puts bytes behind what they are: its name, a blank, their digits, and a line feed.
-pub fn put_bytes(to: Streams, name: &[u8], bytes: &[u8], out: &mut [u8], used: usize) -> usize
-    ensures { Queued (bytes_line name.now bytes.now) out.old used out.new result }
+pub fn put_bytes(name: &[u8], bytes: &[u8], out: &mut Out)
+    ensures { TextPut (bytes_line name.now bytes.now) out.old out.new }
 {
-    let at = put_all(to, name, out, used);
-    let at = put(to, b' ', out, at);
-    let at = put_hex(to, bytes, out, at);
-    put(to, b'\n', out, at)
+    out.put_all(name);
+    out.put(b' ');
+    out.put_hex(bytes);
+    out.put(b'\n');
 }

@@ -1,82 +1,36 @@
--- The checks by their numbers: what the tests on marks and summaries tell, and the search for the least place.
+-- The checks in number order: what the tests on marks and summaries tell, and the search for the least place.
 use mathlib.Core.Path.{◌≡◌, refl, sym, ap, ◌∙◌}
 use mathlib.Core.Bool.{Bool, true, false, not}
 use mathlib.Core.List.{List, [], ◌∷◌}
 use mathlib.Core.Option.{Option, none, some}
-use Prim.Native.Nat.{ℕ, suc, ◌+◌, ◌-◌, ◌≤◌, ◌<◌}
-use native.Mathlib.Decide.{ℕ_discrete, dec_lt}
+use Prim.Native.Nat.{ℕ, zero, suc, ◌+◌, ◌-◌, ◌≤◌, ◌<◌}
+use native.Mathlib.Decide.{ℕ_discrete}
 use native.Mathlib.Numerals.{add-one}
 use native.Mathlib.Omega.{arith}
-use borrow.Author.Tests.{eq-eqb, ne_eqb, le-leb, lt-leb}
-use lib.Dec.{eqb, leb}
-use lib.ListN.{length, get_or, get_elem?}
+use borrow.Author.Tests.{eq-eqb, ne_eqb}
+use lib.Dec.{eqb}
+use lib.ListN.{length, get_or}
 use Rattle.words.specs.Word.{Word}
+use Rattle.words.specs.declared.No.{No}
 use Rattle.machine.specs.Machine.{Table}
-use Rattle.end_laws.specs.Ends.{lives, clean, stuck}
-use Rattle.end_laws.specs.Companion.{least, free_row}
-use Rattle.summary.specs.Codes.{decode, K}
-use Rattle.summary.proofs.Codes.{some_lives, none_lives}
-use Rattle.summary.proofs.Tests.{clean_from, unclean_below}
-use Rattle.checks.specs.Checks.{by_number, places_at, passes_at, least_at}
-
--- ---- tests of one state
--- A number tells of a word if it is not 0.
-pub lives_test : (r n : ℕ) → r ≡ n → not (eqb r 0) ≡ lives (decode n)
-lives_test r n e = elim (ℕ_discrete r 0) [
-  | yes z ↦ ap not (eq-eqb r 0 z) ∙ sym (ap (λ k. lives (decode k)) (sym e ∙ z) ∙ none_lives)
-  | no z ↦ ap not (ne_eqb r 0 z) ∙ sym (some_lives n (λ k. z (e ∙ k)))
-]
-
--- A number tells of no common prefix if it is at least 257.
-pub clean_test : (r n : ℕ) → r ≡ n → leb 257 r ≡ clean (decode n)
-clean_test r n e = elim (dec_lt r 257) [
-  | yes l ↦ lt-leb 257 r l ∙ sym (unclean_below n (omega arith))
-  | no l ↦ le-leb 257 r (omega arith) ∙ sym (clean_from n (omega arith))
-]
-
--- One of six by six tests, another if all fail.
-abbrev by_tests : {A : Type 0} → Bool → Bool → Bool → Bool → Bool → Bool → A → A → A → A → A → A → A → A
-by_tests s t u v w z a b c d e f other =
-    elim s [
-      | true ↦ a
-      | false ↦ elim t [
-        | true ↦ b
-        | false ↦ elim u [
-          | true ↦ c
-          | false ↦ elim v [
-            | true ↦ d
-            | false ↦ elim w [ true ↦ e | false ↦ elim z [ true ↦ f | false ↦ other ] ]
-          ]
-        ]
-      ]
-    ]
-
--- A number that is none of 13 to 18.
-by_none : {A : Type 0} (n : ℕ) (a b c d e f o : A) → (n ≡ 13 → ⊥) → (n ≡ 14 → ⊥) → (n ≡ 15 → ⊥) → (n ≡ 16 → ⊥) → (n ≡ 17 → ⊥) → (n ≡ 18 → ⊥)
-    → by_number n a b c d e f o ≡ o
-by_none n a b c d e f o i j k l m h =
-    ap (λ x. by_tests x (eqb n 14) (eqb n 15) (eqb n 16) (eqb n 17) (eqb n 18) a b c d e f o) (ne_eqb n 13 i)
-    ∙ ap (λ x. by_tests false x (eqb n 15) (eqb n 16) (eqb n 17) (eqb n 18) a b c d e f o) (ne_eqb n 14 j)
-    ∙ ap (λ x. by_tests false false x (eqb n 16) (eqb n 17) (eqb n 18) a b c d e f o) (ne_eqb n 15 k)
-    ∙ ap (λ x. by_tests false false false x (eqb n 17) (eqb n 18) a b c d e f o) (ne_eqb n 16 l)
-    ∙ ap (λ x. by_tests false false false false x (eqb n 18) a b c d e f o) (ne_eqb n 17 m)
-    ∙ ap (λ x. by_tests false false false false false x a b c d e f o) (ne_eqb n 18 h)
-
--- A check below 17 with another number than 13 to 16 passes every place.
-pub passes_other : (n : ℕ) (M : Table) (m xs ys : List ℕ) (p : ℕ) → (n ≡ 13 → ⊥) → (n ≡ 14 → ⊥) → (n ≡ 15 → ⊥) → (n ≡ 16 → ⊥) → n < 17
-    → true ≡ passes_at n M m xs ys p
-passes_other n M m xs ys p a b c d l =
-    sym (by_none n (not (eqb (get_or m p 0) 0)) (lives (K xs p)) (clean (K xs p)) (clean (K ys p)) (not (stuck (K xs M.start) M.after))
-    (free_row (K xs) (get_elem? M.rows p)) true a b c d (λ e. omega arith) (λ e. omega arith))
+use Rattle.machine.specs.Verdict.{Verdict, late}
+use Rattle.std.specs.Prelude.{Result, Some, None, Ok, Err}
+use Rattle.std.specs.Prelude as code
+use Rattle.std.specs.Bool.{then_some}
+use Rattle.end_laws.specs.Ends.{stuck}
+use Rattle.end_laws.specs.Companion.{Check, least, judge_by}
+use Rattle.summary.specs.Codes.{decode, untold, K}
+use Rattle.summary.specs.declared.Summary.{Summary}
+use Rattle.checks.specs.Checks.{place_of, IsLeast, checked, verdict_then, verdict_by}
 
 -- ---- the search
-module _ (test : ℕ → Bool) (n : ℕ) where
-  -- The search, by the test of one place.
-  abbrev searched : Bool → ℕ → ℕ → Option ℕ
-  searched t k i = elim t [ true ↦ least test k (suc i) | false ↦ some i ]
+-- The search, by the test of one place.
+abbrev searched : (ℕ → Bool) → Bool → ℕ → ℕ → Option ℕ
+searched test t k i = elim t [ true ↦ least test k (suc i) | false ↦ some i ]
 
+module _ (test : ℕ → Bool) (n : ℕ) where
   -- One place from i on.
-  least_one : (i : ℕ) → i < n → least test (n - i) i ≡ searched (test i) (n - (i + 1)) i
+  least_one : (i : ℕ) → i < n → least test (n - i) i ≡ searched test (test i) (n - (i + 1)) i
   unfolding least
   least_one i l = ap (λ k. least test k i) more
     where
@@ -88,11 +42,11 @@ module _ (test : ℕ → Bool) (n : ℕ) where
     -- A place that passes is passed over.
     pub least_on : {b : Bool} → i < n → b ≡ test i → b ≡ true → least test (n - (i + 1)) (i + 1) ≡ o
     least_on l e t =
-        ap (least test (n - (i + 1))) (add-one i) ∙ sym (least_one i l ∙ ap (λ t. searched t (n - (i + 1)) i) (sym e ∙ t)) ∙ found
+        ap (least test (n - (i + 1))) (add-one i) ∙ sym (least_one i l ∙ ap (λ t. searched test t (n - (i + 1)) i) (sym e ∙ t)) ∙ found
 
     -- A place that does not pass is found.
     pub least_here : {b : Bool} → i < n → b ≡ test i → b ≡ false → some i ≡ o
-    least_here l e t = sym (least_one i l ∙ ap (λ t. searched t (n - (i + 1)) i) (sym e ∙ t)) ∙ found
+    least_here l e t = sym (least_one i l ∙ ap (λ t. searched test t (n - (i + 1)) i) (sym e ∙ t)) ∙ found
 
     -- No place is left.
     pub least_end : n ≤ i → none ≡ o
@@ -104,53 +58,95 @@ module _ (test : ℕ → Bool) (n : ℕ) where
 
 -- ---- the initial rule
 -- Its last word is empty.
-pub start_empty : (M : Table) (xs : List ℕ) (w : Word) → length w ≡ 0 → w ≡ M.after → stuck (K xs M.start) M.after ≡ false
+pub start_empty : (M : Table) (xs : List Summary) (w : Word) → length w ≡ 0 → w ≡ M.after → stuck (K xs M.start) M.after ≡ false
 start_empty M xs [] z e = ap (stuck (K xs M.start)) (sym e)
 start_empty M xs (a ∷ w) z e = absurd (omega arith)
 
 -- Its test, by what is read: its last word w, which is not empty, its state q, and what is kept for that.
-pub start_test : (M : Table) (xs : List ℕ) (w : Word) (q x : ℕ) {b : Bool} → (length w ≡ 0 → ⊥) → w ≡ M.after → q ≡ M.start → x ≡ get_or xs q 0
+pub start_test : (M : Table) (xs : List Summary) (w : Word) (q : ℕ) (x : Summary) {b : Bool} → (length w ≡ 0 → ⊥) → w ≡ M.after → q ≡ M.start → x ≡ get_or xs q
+    untold
     → ((v : Word) → b ≡ stuck (decode x) (get_or w 0 0 ∷ v)) → stuck (K xs M.start) M.after ≡ b
 start_test M xs [] q x ne ew eq ex eb = absurd (ne refl)
 start_test M xs (a ∷ w) q x ne ew eq ex eb =
     ap (λ n. stuck (K xs n) M.after) (sym eq) ∙ ap (λ n. stuck (decode n) M.after) (sym ex) ∙ ap (stuck (decode x)) (sym ew) ∙ sym (eb w)
 
 -- The initial rule is found, if its last word can be pushed.
-pub start_found : (b : Bool) → b ≡ true → some 0 ≡ least (λ p. not b) 1 0
+pub start_told : (b : Bool) → place_of (then_some b 0) ≡ least (λ p. not b) 1 0
 unfolding least
-start_found b e = sym (ap (λ t. least (λ p. not t) 1 0) e)
+start_told true = refl
+start_told false = refl
 
 -- It is not, if that cannot be pushed.
 pub start_free : (b : Bool) → b ≡ false → none ≡ least (λ p. not b) 1 0
 unfolding least
 start_free b e = sym (ap (λ t. least (λ p. not t) 1 0) e)
 
--- ---- the places of a check
--- The places of the checks 13 to 16 are the states.
-places_states : (n : ℕ) (M : Table) → 13 ≤ n → n ≤ 16 → places_at n M ≡ M.states
-places_states n M l h = elim (ℕ_discrete n 13) [
-  | yes e ↦ ap (λ k. places_at k M) e
-  | no a ↦ elim (ℕ_discrete n 14) [
-    | yes e ↦ ap (λ k. places_at k M) e
-    | no b ↦ elim (ℕ_discrete n 15) [
-      | yes e ↦ ap (λ k. places_at k M) e
-      | no c ↦ last (omega arith)
-    ]
-  ]
-]
-  where
-    last : n ≡ 16 → places_at n M ≡ M.states
-    last e = ap (λ k. places_at k M) e
-
--- What the search over the states finds is the least place of such a check.
-pub least_states : {o : Option ℕ} (n k : ℕ) (M : Table) (m xs ys : List ℕ) → 13 ≤ n → n ≤ 16 → k ≡ M.states → o ≡ least (passes_at n M m xs ys) k 0
-    → o ≡ least_at n M m xs ys
-least_states n k M m xs ys l h e found = found ∙ ap (λ j. least (passes_at n M m xs ys) j 0) (e ∙ sym (places_states n M l h))
-
--- A number that is none of 13 to 18 has no place.
-pub least_none : (n : ℕ) (M : Table) (m xs ys : List ℕ) → (n ≡ 13 → ⊥) → (n ≡ 14 → ⊥) → (n ≡ 15 → ⊥) → (n ≡ 16 → ⊥) → (n ≡ 17 → ⊥) → (n ≡ 18 → ⊥)
-    → none ≡ least_at n M m xs ys
+-- ---- the least place
+-- No place is found where all pass.
+least_passed : (test : ℕ → Bool) (n i : ℕ) → ((q : ℕ) → i ≤ q → q < i + n → test q ≡ true) → none ≡ least test n i
 unfolding least
-least_none n M m xs ys a b c d e f =
-    let places = by_none n M.states M.states M.states M.states 1 (length M.rows) 0 a b c d e f in
-    sym (ap (λ k. least (passes_at n M m xs ys) k 0) places)
+least_passed test zero i h = refl
+least_passed test (suc n) i h =
+    least_passed test n (suc i) (λ q a b. h q (omega arith) (omega arith)) ∙ sym (ap (λ t. searched test t n i) (h i (omega arith) (omega arith)))
+
+-- The first that does not pass is found.
+least_failed : (test : ℕ → Bool) (n i p : ℕ) → i ≤ p → p < i + n → test p ≡ false → ((q : ℕ) → i ≤ q → q < p → test q ≡ true) → some p ≡ least test n i
+unfolding least
+least_failed test zero i p a b e h = absurd (omega arith)
+least_failed test (suc n) i p a b e h = elim (ℕ_discrete i p) [
+  | yes d ↦ sym (ap (λ t. searched test t n i) (ap test d ∙ e) ∙ ap some d)
+  | no d ↦
+      least_failed test n (suc i) p (omega arith) (omega arith) e (λ q k l. h q (omega arith) l)
+      ∙ sym (ap (λ t. searched test t n i) (h i (omega arith) (omega arith)))
+]
+
+-- The least place that fails is the least that does not pass.
+pub least_is : {fails : ℕ → Type 0} (test : ℕ → Bool) (n : ℕ) (o : code.Option ℕ) → ((q : ℕ) → fails q → test q ≡ false)
+    → ((q : ℕ) → (fails q → ⊥) → test q ≡ true) → IsLeast fails n o → place_of o ≡ least test n 0
+least_is test n None f g h = least_passed test n 0 (λ q a b. g q (h q (omega arith)))
+least_is test n (Some p) f g h = least_failed test n 0 p (omega arith) (omega (arith, h.0)) (f p h.1) (λ q a b. g q (h.2 q b))
+
+-- A state without a mark is not reached.
+pub unmarked_least : {k : ℕ} (m : List ℕ) (n : ℕ) (o : code.Option ℕ) → n ≡ k → IsLeast (λ q. get_or m q 0 ≡ 0) n o → place_of o ≡ least
+    (λ q. not (eqb (get_or m q 0) 0)) k 0
+unmarked_least m n o d h =
+    least_is (λ q. not (eqb (get_or m q 0) 0)) n o (λ q e. ap not (eq-eqb _ _ e)) (λ q e. ap not (ne_eqb _ _ e)) h
+    ∙ ap (λ j. least (λ q. not (eqb (get_or m q 0) 0)) j 0) d
+
+-- What is not false is true.
+ne_false : (b : Bool) → (b ≡ false → ⊥) → b ≡ true
+ne_false true h = refl
+ne_false false h = absurd (h refl)
+
+-- The least place with a test that answers false.
+pub least_false : {k : ℕ} (test : ℕ → Bool) (n : ℕ) (o : code.Option ℕ) → n ≡ k → IsLeast (λ q. test q ≡ false) n o → place_of o ≡ least test k 0
+least_false test n o d h = least_is test n o (λ q e. e) (λ q e. ne_false (test q) e) h ∙ ap (λ j. least test j 0) d
+
+-- ---- the checks in number order
+module _ (c : Check) (cs : List Check) {v : Verdict} {r : Result Unit No} (o : code.Option ℕ) (told : r ≡ checked c.number o)
+    (found : place_of o ≡ least c.passes c.places 0) (rest : judge_by (c ∷ cs) ≡ v) where
+  -- What is judged is told by what the first check answers, or by the others.
+  pub judged_then : verdict_then r (judge_by cs) ≡ v
+  unfolding judge_by
+  judged_then = ap (λ s. verdict_then s (judge_by cs)) told ∙ by_place o ∙ ap judged found ∙ rest
+    where
+      judged : Option ℕ → Verdict
+      judged p = elim p [ none ↦ judge_by cs | some p ↦ late c.number p ]
+
+      by_place : (o : code.Option ℕ) → verdict_then (checked c.number o) (judge_by cs) ≡ judged (place_of o)
+      by_place None = refl
+      by_place (Some p) = refl
+
+  -- The others judge, where the first check is passed.
+  pub judged_next : {u : Unit {0}} → r ≡ Ok u → judge_by cs ≡ v
+  judged_next e = sym (ap (λ s. verdict_then s (judge_by cs)) e) ∙ judged_then
+
+  -- The first check judges, where it is not.
+  pub judged_here : {x : No} {s : Result Unit No} → r ≡ Err x → s ≡ Err x → verdict_by s ≡ v
+  judged_here e d = ap verdict_by d ∙ sym (ap (λ s. verdict_then s (judge_by cs)) e) ∙ judged_then
+
+-- The last check judges by what it answers.
+pub judged_last : (c : Check) {v : Verdict} {r : Result Unit No} (o : code.Option ℕ) → r ≡ checked c.number o → place_of o ≡ least c.passes c.places 0
+    → judge_by (c ∷ []) ≡ v → verdict_by r ≡ v
+unfolding judge_by
+judged_last c o told found rest = judged_then c [] o told found rest

@@ -1,89 +1,91 @@
-// The checks 13 to 18 by their numbers, on the states that are reached and the summaries at both sides: the least place that does not pass.
+// The checks 13 to 18, on the states that are reached and the summaries at both sides: the first that some place does not pass.
 #![tactic(auto)]
 
-ghost use Rattle.std.specs.Prelude.{◌≡◌, not, ◌<◌, length};
-ghost use Rattle.machine.specs.Machine.{Table};
-ghost use Rattle.end_laws.specs.Ends.{stuck};
-ghost use Rattle.end_laws.specs.Companion.{least};
-ghost use Rattle.layout.specs.Layout.{numbers_size, Meant};
+ghost use Rattle.std.specs.Prelude.{◌≡◌, not, false, ◌<◌, get_or};
+ghost use Rattle.end_laws.specs.Ends.{lives, clean, stuck};
+ghost use Rattle.end_laws.specs.Companion.{least, judge_by};
+ghost use Rattle.layout.specs.Lent.{Means};
 ghost use Rattle.summary.specs.Codes.{K};
-ghost use Rattle.checks.specs.Checks.{place_of, passes_at, least_at};
+ghost use Rattle.checks.specs.Checks.{place_of, IsLeast, checked, verdict_by, all_checks};
 
 use crate::rules::least_rule;
-use layout::{byte, start, states, word_after};
-use summary::{kept, stuck_by};
+use layout::{OpenTable, byte, start, states, word_after};
+use summary::{Summary, kept};
+use words::No;
 
 mod rules;
 
-// The least place that does not pass a check, if any.
-#[derive(Clone, Copy)]
-pub enum Fault {
-    At(usize),
-    Nowhere,
+// The least state that is not reached.
+fn unreached(count: usize, marks: &[u8]) -> Option<usize>
+    ensures { IsLeast (λ q. get_or marks.now q 0 ≡ 0) count result }
+{
+    (0..count).find(|q| byte(marks, *q) == 0)
 }
 
-// Whether a state passes the check with this number.
-fn passes(number: u8, q: usize, marks: &[u8], left: &[u16], right: &[u16]) -> bool
-    requires { number < 17 }
-    ensures { (M : Table) → result ≡ passes_at number M marks.now left.now right.now q }
+// The least state of which no word is known.
+fn wordless(count: usize, left: &[Summary]) -> Option<usize>
+    ensures { IsLeast (λ q. lives (K left.now q) ≡ false) count result }
 {
-    match number {
-        13 => byte(marks, q) != 0,
-        14 => kept(left, q) != 0,
-        15 => 257 <= kept(left, q),
-        16 => 257 <= kept(right, q),
-        _ => true,
-    }
-}
-
-// The least of so many states that does not pass the check with this number.
-fn least_state(number: u8, count: usize, marks: &[u8], left: &[u16], right: &[u16]) -> Fault
-    requires { number < 17 }
-    ensures { (M : Table) → place_of result ≡ least (passes_at number M marks.now left.now right.now) count 0 }
-{
-    let mut q: usize = 0;
-    while q < count {
-        if !passes(number, q, marks, left, right) {
-            return Fault::At(q);
+    // A `find` over the range was tried: its proof does not close for a test that is no comparison of numbers.
+    for q in 0..count {
+        if !kept(left, q).lives() {
+            return Some(q);
         }
-        q += 1;
     }
-    Fault::Nowhere
+    None
+}
+
+// The least state whose words have a common prefix, or suffix: by their ends at that side, which are one letter.
+fn unclean(count: usize, values: &[Summary]) -> Option<usize>
+    ensures { IsLeast (λ q. clean (K values.now q) ≡ false) count result }
+{
+    // A `find` over the range was tried: its proof does not close for a test that is no comparison of numbers.
+    for q in 0..count {
+        if !kept(values, q).clean() {
+            return Some(q);
+        }
+    }
+    None
 }
 
 // The initial rule, if its last word can be pushed to the left of its state.
-fn start_fault(frames: &[u8], numbers: &[u64], left: &[u16]) -> Fault
-    ensures { Meant frames.now numbers.now (λ M. place_of result
+fn start_fault(table: &OpenTable<'_>, left: &[Summary]) -> Option<usize>
+    ensures { Means table.now (λ M. place_of result
         ≡ least (λ p. not (stuck (K left.now M.start) M.after)) 1 0) }
 {
-    let word = word_after(frames, numbers);
+    let word = word_after(table);
     if word.len() == 0 {
-        return Fault::Nowhere;
+        return None;
     }
-    let q = start(numbers);
-    if stuck_by(word[0], kept(left, q)) {
-        return Fault::At(0);
-    }
-    Fault::Nowhere
+    let stuck = kept(left, start(table.numbers)).stuck_by(word[0]);
+    stuck.then_some(0)
 }
 
-// The least place that does not pass the check with this number.
-pub fn place_of_fault(
-    number: u8,
-    frames: &[u8],
-    numbers: &[u64],
-    marks: &[u8],
-    left: &[u16],
-    right: &[u16],
-) -> Fault
-    requires { length numbers.now ≡ numbers_size }
-    ensures { Meant frames.now numbers.now (λ M. place_of result
-        ≡ least_at number M marks.now left.now right.now) }
+// A check is passed where no place fails it.
+fn passed(number: u8, least: Option<usize>) -> Result<(), No>
+    ensures { result ≡ checked number least }
 {
-    match number {
-        13..=16 => least_state(number, states(numbers), marks, left, right),
-        17 => start_fault(frames, numbers, left),
-        18 => least_rule(frames, numbers, left),
-        _ => Fault::Nowhere,
+    match least {
+        Some(place) => Err(No { number, place }),
+        None => Ok(()),
     }
+}
+
+// The checks in number order: the first that some place does not pass, with the least such place.
+pub fn first_fault(
+    table: &OpenTable<'_>,
+    marks: &[u8],
+    left: &[Summary],
+    right: &[Summary],
+) -> Result<(), No>
+    ensures { Means table.now (λ M. verdict_by result
+        ≡ judge_by (all_checks M marks.now left.now right.now)) }
+{
+    let count = states(table.numbers);
+    passed(13, unreached(count, marks))?;
+    passed(14, wordless(count, left))?;
+    passed(15, unclean(count, left))?;
+    passed(16, unclean(count, right))?;
+    passed(17, start_fault(table, left))?;
+    passed(18, least_rule(table, left))
 }

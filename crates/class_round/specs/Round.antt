@@ -1,9 +1,7 @@
 -- What a round does, and what its parts answer. Definitions only.
-use Rattle.std.specs.Prelude.{◌≡◌, Bool, true, false, List, ℕ, ◌<◌, ◌≤◌, length, get_or}
+use Rattle.std.specs.Prelude.{◌≡◌, Bool, true, false, List, ℕ, ◌<◌, ◌≤◌, get_or}
 use Rattle.machine.specs.Machine.{Table}
 use Rattle.machine.specs.Twins.{Match}
-use Rattle.text.specs.Limits.{states_most}
-use Rattle.layout.specs.Layout.{numbers_size}
 use Rattle.same_words.specs.Words.{Any}
 
 -- rep puts a and b into one class.
@@ -17,12 +15,6 @@ SameShape M q r = Match M M Any q r
 -- So do those of states in one class, of the first n: what the first round leaves, and every round keeps.
 abbrev pub Shapes : Table → ℕ → List ℕ → Type 0
 Shapes M n rep = (q r : ℕ) → q < n → r < n → OneClass rep q r → SameShape M q r
-
--- The sizes that let the rounds read with no test: numbers as many as an opened table's, a class for each state in the old round and in the new.
-pub record RoundSized (I rep next : List ℕ) : Type 0 where
-  pub numbers : length I ≡ numbers_size
-  pub old : length rep ≡ states_most
-  pub new : length next ≡ states_most
 
 -- What holds of the classes where a round begins: before the first all states are in one; later, states of one have rows that match up to their children.
 pub record RoundBegun (first : Bool) (M : Table) (n : ℕ) (rep : List ℕ) : Type 0 where

@@ -1,5 +1,5 @@
 -- Stores that only raise numbers: how far the numbers are below the most states, all told, only falls.
-use mathlib.Core.Path.{◌≡◌, refl, sym, ap, subst, ◌∙◌}
+use mathlib.Core.Path.{◌≡◌, refl, sym, ap, ◌∙◌}
 use mathlib.Core.List.{List, [], ◌∷◌}
 use Prim.Native.Nat.{ℕ, zero, suc, ◌+◌, ◌*◌, ◌<◌, ◌≤◌}
 use native.Mathlib.Nat.{not-suc-le-zero, le_of_suc-le-suc}
@@ -12,12 +12,6 @@ use Rattle.classes.specs.Classes.{ClassNumbers}
 use Rattle.class_round.specs.Round.{Low, NumbersRaised}
 use Rattle.class_round.proofs.Stores.{same_or}
 use Rattle.classes.specs.Taking.{slack, ClassPut, Adopted}
-
--- Entries that are 0 wherever there is one are 0 everywhere.
-pub zeros_all : (m : List ℕ) → ((q : ℕ) → q < length m → get_or m q 0 ≡ 0) → (q : ℕ) → get_or m q 0 ≡ 0
-zeros_all [] h q = refl
-zeros_all (x ∷ m) h zero = h zero (omega arith)
-zeros_all (x ∷ m) h (suc q) = zeros_all m (λ p l. h (suc p) (omega arith)) q
 
 -- At most that many for each entry.
 pub slack_most : (m : List ℕ) → slack m ≤ states_most * length m

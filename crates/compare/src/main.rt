@@ -2,24 +2,27 @@
 // place.
 #![tactic(auto)]
 
-use comparison::Compared;
-use console::Input;
+use comparison::TableNo;
 use output::Streams;
 use std::env::Env;
 use std::fs::Files;
 
 fn answer(to: Streams, first: &[u8], second: &[u8]) {
     match fadurinko::compare(first, second) {
-        Compared::Same => {
+        Ok(true) => {
             output::print(to, b"same\n");
         }
-        Compared::Different => {
+        Ok(false) => {
             output::print(to, b"different\n");
         }
-        Compared::Refused { table, refusal } => {
+        Err(TableNo { table, refusal }) => {
             console::print_no(
                 to,
-                &[table as u64, refusal.number as u64, refusal.place as u64],
+                &[
+                    u64::from(table),
+                    u64::from(refusal.number),
+                    refusal.place as u64,
+                ],
             );
         }
     }
@@ -29,11 +32,11 @@ fn answer(to: Streams, first: &[u8], second: &[u8]) {
 fn compare_files<R: Env + Files>(rt: &R, to: Streams, usage: &[u8]) {
     // One byte more than a text may have, so that a longer one is seen to be too long.
     let mut first = [0u8; layout::TEXT + 1];
-    let Input::Bytes(n) = console::read_file(rt, to, 1, usage, &mut first) else {
+    let Some(n) = console::read_file(rt, to, 1, usage, &mut first) else {
         return;
     };
     let mut second = [0u8; layout::TEXT + 1];
-    let Input::Bytes(m) = console::read_file(rt, to, 2, usage, &mut second) else {
+    let Some(m) = console::read_file(rt, to, 2, usage, &mut second) else {
         return;
     };
     answer(to, output::front(&first, n), output::front(&second, m));

@@ -1,3 +1,3 @@
 -- Laws of comparing two table texts:
---   Comparing   first_refused, second_refused, texts_compared: by the judgements of the texts
+--   Comparing   not_handed, texts_compared: by the judgements of the texts
 pub mod Comparing

@@ -3,10 +3,10 @@
 
 mod usage;
 
-ghost use Rattle.std.specs.Prelude.{◌≤◌, length, IfOk};
-ghost use Rattle.console.specs.Input.{WithinRoom};
+ghost use Rattle.std.specs.Prelude.{◌≤◌, length, take, IfOk, IfSome};
+ghost use Rattle.std.specs.Io.KnownBytes.{Consumes, ReadConsumes};
 
-use output::Streams;
+use output::{Out, Streams};
 use std::env::{Env, FillError};
 use std::fs::{File, Files};
 use std::io;
@@ -14,31 +14,26 @@ use std::io::{Error, ErrorKind, IsTerminal, Read, Stdin};
 pub use usage::started_with;
 use usage::{arg_count, tell};
 
-// How many bytes were read, or that reading failed.
-#[derive(Drop)]
-pub enum Input {
-    Bytes(usize),
-    Failed,
-}
-
 // Reads once, and answers how many bytes it put at the start of buf: none where the input has ended.
 pub fn read_some<R: Read>(from: &mut R, buf: &mut [u8]) -> io::Result<usize>
-    ensures { IfOk result (λ n. n ≤ length buf.old) }
+    ensures few { IfOk result (λ n. n ≤ length buf.old) }
+    ensures bytes { ReadConsumes (R.remaining from.old) (R.remaining from.new) result buf.new }
 {
     from.read(buf)
 }
 
 // Reads until buf is full or the input ends, and answers how many bytes it put at the start of buf.
 pub fn read_all<R: Read>(from: &mut R, buf: &mut [u8]) -> io::Result<usize>
-    ensures { IfOk result (λ n. n ≤ length buf.old) }
+    ensures few { IfOk result (λ n. n ≤ length buf.old) }
+    ensures bytes { IfOk result (λ n. Consumes (R.remaining from.old) (R.remaining from.new) (take n buf.new)) }
 {
     let mut n = 0;
+    // How many bytes a turn takes is known only in it, so no range or iterator has the turns.
     while n < buf.len() {
-        let k = read_some(from, &mut buf[n..])?;
-        if k == 0 {
-            return Ok(n);
+        match read_some(from, &mut buf[n..])? {
+            0 => break,
+            more => n += more,
         }
-        n += k;
     }
     Ok(n)
 }
@@ -63,19 +58,25 @@ fn read_path<R: Files>(rt: &R, path: &[u8], buf: &mut [u8]) -> io::Result<usize>
 }
 
 // Reads the file with this name, or complains.
-fn read_named<R: Files>(rt: &R, to: Streams, path: &[u8], usage: &[u8], buf: &mut [u8]) -> Input
-    ensures { WithinRoom (length buf.old) result }
+fn read_named<R: Files>(
+    rt: &R,
+    to: Streams,
+    path: &[u8],
+    usage: &[u8],
+    buf: &mut [u8],
+) -> Option<usize>
+    ensures { IfSome result (λ n. n ≤ length buf.old) }
 {
     match read_path(rt, path, buf) {
-        Ok(n) => Input::Bytes(n),
+        Ok(n) => Some(n),
         Err(why) => {
             complain(to, path, &why, usage);
-            Input::Failed
+            None
         }
     }
 }
 
-// The system's numbers of "Invalid argument" and "File name too long".
+// The system's numbers of "Invalid argument" and "File name too long": std's ErrorKind has other texts, and the programs say these.
 const EINVAL: i32 = 22;
 
 const ENAMETOOLONG: i32 = 36;
@@ -95,29 +96,28 @@ pub fn read_file<R: Env + Files>(
     i: usize,
     usage: &[u8],
     buf: &mut [u8],
-) -> Input
-    ensures { WithinRoom (length buf.old) result }
+) -> Option<usize>
+    ensures { IfSome result (λ n. n ≤ length buf.old) }
 {
     let mut path = [0u8; 4096];
     match rt.arg(i, &mut path) {
         Ok(n) => read_named(rt, to, output::front(&path, n), usage, buf),
         Err(why) => {
             complain(to, b"a file's name", &no_name(why), usage);
-            Input::Failed
+            None
         }
     }
 }
 
 // Reads standard input; says on standard error where that fails.
-fn read_standard(from: Stdin, to: Streams, buf: &mut [u8]) -> Input
-    ensures { WithinRoom (length buf.old) result }
+fn read_standard(mut from: Stdin, to: Streams, buf: &mut [u8]) -> Option<usize>
+    ensures { IfSome result (λ n. n ≤ length buf.old) }
 {
-    let mut from = from;
     match read_all(&mut from, buf) {
-        Ok(n) => Input::Bytes(n),
+        Ok(n) => Some(n),
         Err(why) => {
             output::fail(to, b"standard input", &why);
-            Input::Failed
+            None
         }
     }
 }
@@ -130,30 +130,26 @@ pub fn read_text<R: Env + Files>(
     to: Streams,
     usage: &[u8],
     buf: &mut [u8],
-) -> Input
-    ensures { WithinRoom (length buf.old) result }
+) -> Option<usize>
+    ensures { IfSome result (λ n. n ≤ length buf.old) }
 {
     if arg_count(rt) < 2 {
         if !from.is_terminal() {
             return read_standard(from, to, buf);
         }
         tell(&to.err, usage);
-        return Input::Failed;
+        return None;
     }
     if started_with(rt, to, 1, usage) {
         return read_file(rt, to, 1, usage, buf);
     }
-    Input::Failed
-}
-
-// Puts a refusal into an empty buffer and writes it.
-fn put_and_write(to: Streams, numbers: &[u64], out: &mut [u8]) {
-    let used = answers::put_no(to, numbers, out, 0);
-    output::flush(to, out, used);
+    None
 }
 
 // Prints a refusal by itself.
 pub fn print_no(to: Streams, numbers: &[u64]) {
-    let mut out = [0u8; 4096];
-    put_and_write(to, numbers, &mut out);
+    let mut bytes = [0u8; 4096];
+    let mut out = Out::new(to, &mut bytes);
+    answers::put_no(numbers, &mut out);
+    out.flush();
 }

@@ -1,5 +1,4 @@
 // What a person is told who asks for help, or starts a program with what it cannot use.
-use check::same;
 use output::Streams;
 use std::env::{Env, FillError};
 use std::io::Print;
@@ -11,19 +10,11 @@ pub fn tell<P: Print>(to: &P, usage: &[u8]) {
     let _ = to.write_all(b"README.md explains the numbers of no, docs/TABLES.md the table text.\n");
 }
 
-// Whether a word asks for help.
-fn is_help(word: &[u8]) -> bool {
-    if same(word, b"--help") {
-        return true;
-    }
-    same(word, b"-h")
-}
-
 // Whether argument i asks for help.
 fn asks_help<R: Env>(rt: &R, i: usize) -> bool {
     let mut word = [0u8; 4096];
     match rt.arg(i, &mut word) {
-        Ok(n) => is_help(output::front(&word, n)),
+        Ok(n) => matches!(output::front(&word, n), b"--help" | b"-h"),
         Err(_) => false,
     }
 }
@@ -40,28 +31,21 @@ fn is_given<R: Env>(rt: &R, i: usize) -> bool {
 
 // How many arguments the program was started with, its own name among them.
 pub fn arg_count<R: Env>(rt: &R) -> usize {
-    for i in 0..usize::MAX {
-        if !is_given(rt, i) {
-            return i;
-        }
-    }
-    usize::MAX
+    (0..usize::MAX)
+        .find(|i| !is_given(rt, *i))
+        .unwrap_or(usize::MAX)
 }
 
 // Whether the program was started with so many arguments. If not, or where help is asked for, says
 // what the program wants.
 pub fn started_with<R: Env>(rt: &R, to: Streams, count: usize, usage: &[u8]) -> bool {
     let given = arg_count(rt);
-    if given == 2 {
-        if asks_help(rt, 1) {
-            tell(&to.out, usage);
-            return false;
-        }
+    if given == 2 && asks_help(rt, 1) {
+        tell(&to.out, usage);
+        return false;
     }
-    if 0 < given {
-        if given - 1 == count {
-            return true;
-        }
+    if 0 < given && given - 1 == count {
+        return true;
     }
     tell(&to.err, usage);
     false

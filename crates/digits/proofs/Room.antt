@@ -1,5 +1,5 @@
 -- Writing into a room in pieces, and hexadecimal digits in pieces.
-use mathlib.Core.Path.{◌≡◌, refl, sym, ap, subst, ◌∙◌}
+use mathlib.Core.Path.{◌≡◌, refl, sym, ap, ap₂, subst, ◌∙◌}
 use mathlib.Core.Bool.{Bool, true, false}
 use mathlib.Core.List.{List, [], ◌∷◌, ◌++◌}
 use Prim.Native.Nat.{ℕ, suc, ◌+◌, ◌-◌, ◌*◌, ◌/◌, ◌%◌, ◌<◌, ◌≤◌}
@@ -8,7 +8,7 @@ use native.Mathlib.Numerals.{add-one}
 use native.Mathlib.Omega.{arith}
 use lib.Dec.{ltb}
 use lib.ListN.{length, get_or, set, take, drop, length-append}
-use lib.Seq.{sets, sets-eq, set_out, take-suc, take_all}
+use lib.Seq.{sets, sets-eq, length-sets, take-suc, take_all}
 use borrow.Author.Tests.{ltb-true, ltb-false}
 use Rattle.text.proofs.Digits.{hex_append}
 use Rattle.text.specs.Lines.{digit_of, hex_of}
@@ -27,9 +27,9 @@ sets_append (u ∷ us) vs l i = sets_append us vs (set l i u) (suc i) ∙ ap (λ
 pub wrote_none : (R : List ℕ) (at : ℕ) → Wrote R at [] R at
 wrote_none R at = record { bytes = refl; end = omega arith }
 
--- A byte that has no place is left out.
-pub wrote_outside : (R : List ℕ) (at b : ℕ) → length R ≤ at → Wrote R at (b ∷ []) R (at + 1)
-wrote_outside R at b h = record { bytes = sym (set_out R at b h); end = omega arith }
+-- The room stays as long.
+pub wrote_long : {R ws S : List ℕ} {at next : ℕ} → Wrote R at ws S next → length S ≡ length R
+wrote_long {R} {ws} {S} {at} {next} w = ap length w.bytes ∙ length-sets R at ws
 
 -- Two digits are written at their places.
 pub wrote_digits : (R : List ℕ) (at h l b : ℕ) → h ≡ digit_of (b / 16) → l ≡ digit_of (b % 16)
@@ -48,6 +48,15 @@ wrote_then {R} {us} {S} {vs} {T} {a} {b} {c} w v =
 -- The same bytes are written.
 pub wrote_as : {R us vs S : List ℕ} {a b : ℕ} → us ≡ vs → Wrote R a us S b → Wrote R a vs S b
 wrote_as {R} {us} {vs} {S} {a} {b} e w = subst (λ (l : List ℕ). Wrote R a l S b) e w
+
+-- The same place stands behind them.
+pub wrote_next : {R ws S : List ℕ} {at n m : ℕ} → m ≡ n → Wrote R at ws S n → Wrote R at ws S m
+wrote_next e w = record { bytes = w.bytes; end = e ∙ w.end }
+
+-- They are written into the same room, from the same place on.
+pub wrote_from : {P R ws S : List ℕ} {p at n : ℕ} → (P ≡ R) × (p ≡ at) → Wrote P p ws S n → Wrote R at ws S n
+wrote_from {P} {R} {ws} {S} {p} {at} {n} e w =
+    record { bytes = w.bytes ∙ ap₂ (λ (l : List ℕ) (k : ℕ). sets l k ws) e.0 e.1; end = w.end ∙ ap (λ (k : ℕ). k + length ws) e.1 }
 
 -- The digits of a byte that is another's.
 pub wrote_byte : {R S : List ℕ} {a b n m : ℕ} → n ≡ m → Wrote R a (hex_of (n ∷ [])) S b → Wrote R a (hex_of (m ∷ [])) S b

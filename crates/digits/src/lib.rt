@@ -21,84 +21,110 @@ pub fn digit(v: u8) -> u8
     v + 48 + (v + 6) / 16 * 39
 }
 
-// Writes a byte into the room if it has a place there.
-pub fn put(room: &mut [u8], at: usize, b: u8) -> usize
-    requires { at < 1000000000 }
-    ensures { Wrote room.old at (b ∷ []) room.new result }
-{
-    if room.len() <= at {
-        return at + 1;
+// A lent room, and the place in it where the next byte goes.
+#[derive(Drop)]
+pub struct Pen<'a> {
+    pub room: &'a mut [u8],
+    pub at: usize,
+}
+
+impl<'a> Pen<'a> {
+    // A pen at the beginning of the room.
+    pub fn new(room: &'a mut [u8]) -> Pen<'a>
+        ensures same_room { result.room.ghost_name ≡ room.entry.ghost_name }
+        ensures start { (result.room.now ≡ room.old) × (result.at ≡ 0) }
+    {
+        Pen { room, at: 0 }
     }
-    room[at] = b;
-    at + 1
-}
 
-// Writes a byte as two digits that have their places in the room.
-fn put_inside(room: &mut [u8], at: usize, b: u8) -> usize
-    requires { (at + 2 ≤ length room.old) × (at + 2 < 1000000000) }
-    ensures { Wrote room.old at (hex_of (b ∷ [])) room.new result × (result ≡ at + 2) }
-{
-    room[at] = digit(b / 16);
-    room[at + 1] = digit(b % 16);
-    at + 2
-}
-
-// Writes a byte as two digits, each if it has a place in the room.
-fn put_across(room: &mut [u8], at: usize, b: u8) -> usize
-    requires { at + 2 < 1000000000 }
-    ensures { Wrote room.old at (hex_of (b ∷ [])) room.new result × (result ≡ at + 2) }
-{
-    let next = put(room, at, digit(b / 16));
-    put(room, next, digit(b % 16))
-}
-
-// Writes a byte as two digits.
-pub fn put_byte(room: &mut [u8], at: usize, b: u8) -> usize
-    requires { at + 2 < 1000000000 }
-    ensures { Wrote room.old at (hex_of (b ∷ [])) room.new result × (result ≡ at + 2) }
-{
-    if room.len() < at + 2 {
-        return put_across(room, at, b);
+    // Writes a byte if it has a place in the room.
+    pub fn put(&mut self, b: u8)
+        requires { self.old.at < 1000000000 }
+        ensures same_room { self.new.room.ghost_name ≡ self.old.room.ghost_name }
+        ensures wrote { Wrote self.old.room.now self.old.at (b ∷ []) self.new.room.now self.new.at }
+    {
+        if self.at < self.room.len() {
+            self.room[self.at] = b;
+        }
+        self.at += 1;
     }
-    put_inside(room, at, b)
-}
 
-// Writes bytes as two digits each, each byte if it has a place in the room.
-fn put_hex_across(bytes: &[u8], room: &mut [u8], at: usize) -> usize
-    requires { at + 2 * length bytes.now + 2 < 1000000000 }
-    ensures { Wrote room.old at (hex_of bytes.now) room.new result × (result ≡ at + 2 * length bytes.now) }
-{
-    let mut i = 0;
-    let mut end = at;
-    while i < bytes.len() {
-        end = put_byte(room, end, bytes[i]);
-        i += 1;
+    // Writes a byte as two digits that have their places in the room.
+    fn put_inside(&mut self, b: u8)
+        requires { (self.old.at + 2 ≤ length self.old.room.now) × (self.old.at + 2 < 1000000000) }
+        ensures same_room { self.new.room.ghost_name ≡ self.old.room.ghost_name }
+        ensures wrote { Wrote self.old.room.now self.old.at (hex_of (b ∷ [])) self.new.room.now self.new.at }
+        ensures end { self.new.at ≡ self.old.at + 2 }
+    {
+        self.room[self.at] = digit(b / 16);
+        self.room[self.at + 1] = digit(b % 16);
+        self.at += 2;
     }
-    end
-}
 
-// Writes bytes as two digits each. Where all have their places no byte asks for its own.
-pub fn put_hex(bytes: &[u8], room: &mut [u8], at: usize) -> usize
-    requires { at + 2 * length bytes.now + 2 < 1000000000 }
-    ensures { Wrote room.old at (hex_of bytes.now) room.new result × (result ≡ at + 2 * length bytes.now) }
-{
-    if room.len() < at + 2 * bytes.len() {
-        return put_hex_across(bytes, room, at);
+    // Writes a byte as two digits, each if it has a place in the room.
+    pub fn put_byte(&mut self, b: u8)
+        requires { self.old.at + 2 < 1000000000 }
+        ensures same_room { self.new.room.ghost_name ≡ self.old.room.ghost_name }
+        ensures wrote { Wrote self.old.room.now self.old.at (hex_of (b ∷ [])) self.new.room.now self.new.at }
+        ensures end { self.new.at ≡ self.old.at + 2 }
+    {
+        if self.room.len() < self.at + 2 {
+            self.put(digit(b / 16));
+            self.put(digit(b % 16));
+        } else {
+            self.put_inside(b);
+        }
     }
-    let mut i = 0;
-    let mut end = at;
-    while i < bytes.len() {
-        end = put_inside(room, end, bytes[i]);
-        i += 1;
-    }
-    end
-}
 
-// Writes a word behind its length byte.
-pub fn put_text(word: &[u8], room: &mut [u8], at: usize) -> usize
-    requires { (length word.now < 256) × (at + 520 < 1000000000) }
-    ensures { Wrote room.old at (hex_of (text_of word.now)) room.new result × (result ≡ at + 2 + 2 * length word.now) }
-{
-    let next = put_byte(room, at, narrow(word.len()));
-    put_hex(word, room, next)
+    // Writes a byte as two digits at another place, and stays where it is.
+    pub fn put_byte_at(&mut self, at: usize, b: u8)
+        requires { at + 2 < 1000000000 }
+        ensures same_room { self.new.room.ghost_name ≡ self.old.room.ghost_name }
+        ensures wrote { Wrote self.old.room.now at (hex_of (b ∷ [])) self.new.room.now (at + 2) }
+        ensures stays { self.new.at ≡ self.old.at }
+    {
+        let end = self.at;
+        self.at = at;
+        self.put_byte(b);
+        self.at = end;
+    }
+
+    // Writes bytes as two digits each, each byte if it has a place in the room.
+    fn put_hex_across(&mut self, bytes: &[u8])
+        requires { self.old.at + 2 * length bytes.now + 2 < 1000000000 }
+        ensures same_room { self.new.room.ghost_name ≡ self.old.room.ghost_name }
+        ensures wrote { Wrote self.old.room.now self.old.at (hex_of bytes.now) self.new.room.now self.new.at }
+        ensures end { self.new.at ≡ self.old.at + 2 * length bytes.now }
+    {
+        for b in bytes {
+            self.put_byte(*b);
+        }
+    }
+
+    // Writes bytes as two digits each. Where all have their places no byte asks for its own.
+    pub fn put_hex(&mut self, bytes: &[u8])
+        requires { self.old.at + 2 * length bytes.now + 2 < 1000000000 }
+        ensures same_room { self.new.room.ghost_name ≡ self.old.room.ghost_name }
+        ensures wrote { Wrote self.old.room.now self.old.at (hex_of bytes.now) self.new.room.now self.new.at }
+        ensures end { self.new.at ≡ self.old.at + 2 * length bytes.now }
+    {
+        if self.room.len() < self.at + 2 * bytes.len() {
+            self.put_hex_across(bytes);
+            return;
+        }
+        for b in bytes {
+            self.put_inside(*b);
+        }
+    }
+
+    // Writes a word behind its length byte.
+    pub fn put_text(&mut self, word: &[u8])
+        requires { (length word.now < 256) × (self.old.at + 520 < 1000000000) }
+        ensures same_room { self.new.room.ghost_name ≡ self.old.room.ghost_name }
+        ensures wrote { Wrote self.old.room.now self.old.at (hex_of (text_of word.now)) self.new.room.now self.new.at }
+        ensures end { self.new.at ≡ self.old.at + 2 + 2 * length word.now }
+    {
+        self.put_byte(narrow(word.len()));
+        self.put_hex(word);
+    }
 }

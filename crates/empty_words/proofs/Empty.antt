@@ -18,9 +18,8 @@ use Rattle.end_laws.specs.Ends.{Side, left, right, end}
 use Rattle.end_laws.specs.Meaning.{Ending, Shown, Witnessed}
 use Rattle.end_laws.proofs.Values.{unknown_shown, alone_shown}
 use Rattle.layout.specs.Layout.{rest_letters, rule_letters}
-use Rattle.summary.specs.Codes.{decode, K}
-use Rattle.summary.proofs.Codes.{nothing_known, has_empty}
-use Rattle.summary.proofs.Tests.{blank_alone}
+use Rattle.summary.specs.Codes.{decode, untold, only_empty, K}
+use Rattle.summary.specs.declared.Summary.{Summary}
 use Rattle.empty_words.specs.Blank.{Blanks, EmptyTold, AllBlank, BlankRule, BlankOf}
 
 -- A word without letters is empty.
@@ -38,11 +37,11 @@ letters_parts : (r : Rule) → rule_letters r ≡ length r.first + rest_letters 
 unfolding rule_letters
 letters_parts r = refl
 
-module _ (M : Table) (xs : List ℕ) where
+module _ (M : Table) (xs : List Summary) where
   -- ---- what is told is true
   module _ (B : Blanks M xs) where
     -- A state for which something is kept has the empty word.
-    kept_held : (q : ℕ) → (get_or xs q 0 ≡ 0 → ⊥) → (get_or xs q 0 ≡ 1024) × Holds (L M q) []
+    kept_held : (q : ℕ) → (get_or xs q untold ≡ untold → ⊥) → (get_or xs q untold ≡ only_empty) × Holds (L M q) []
     kept_held q n = ⊎_elim (λ z. absurd (n z)) (λ h. h) (B.told q)
 
     -- A rest without letters, whose children have the empty word, has it too.
@@ -65,26 +64,27 @@ module _ (M : Table) (xs : List ℕ) where
         let held = word_join M row.state row.symbol k.0 r [] found k.1 ∙ ap some (append-nil r.first ∙ none) in
         subst (λ p. Holds (L M p) []) b.state (node row.symbol k.0, held)
 
-    -- 1024 may be kept for a state that has the empty word.
-    pub blanks_set : (q : ℕ) → q < length xs → Holds (L M q) [] → Blanks M (set xs q 1024)
+    -- The empty word may be kept for a state that has the empty word.
+    pub blanks_set : (q : ℕ) → q < length xs → Holds (L M q) [] → Blanks M (set xs q only_empty)
     blanks_set q l h = record { told = λ p. go p (ℕ_discrete p q) }
       where
-        go : (p : ℕ) → Dec (p ≡ q) → (get_or (set xs q 1024) p 0 ≡ 0) ⊎ ((get_or (set xs q 1024) p 0 ≡ 1024) × Holds (L M p) [])
-        go p (yes e) = inr (ap (λ n. get_or (set xs q 1024) n 0) e ∙ get_or-set_same xs q 1024 0 l, subst (λ n. Holds (L M n) []) (sym e) h)
-        go p (no n) = subst (λ x. (x ≡ 0) ⊎ ((x ≡ 1024) × Holds (L M p) [])) (sym (get_or-set_other xs q p 1024 0 n)) (B.told p)
-
-  -- Nothing is kept, so nothing is told.
-  pub zeros_blanks : ((q : ℕ) → get_or xs q 0 ≡ 0) → Blanks M xs
-  zeros_blanks z = record { told = λ q. inl (z q) }
+        go : (p : ℕ) → Dec (p ≡ q) → (get_or (set xs q only_empty) p untold ≡ untold) ⊎
+            ((get_or (set xs q only_empty) p untold ≡ only_empty) × Holds (L M p) [])
+        go p (yes e) = inr (
+          ap (λ n. get_or (set xs q only_empty) n untold) e ∙ get_or-set_same xs q only_empty untold l,
+          subst (λ n. Holds (L M n) []) (sym e)
+              h,
+        )
+        go p (no n) = subst (λ x. (x ≡ untold) ⊎ ((x ≡ only_empty) × Holds (L M p) [])) (sym (get_or-set_other xs q p only_empty untold n)) (B.told p)
 
   -- ---- all is told
   -- Something is kept for every state that has a rule without letters, for whose children something is kept.
-  module _ (C : (q : ℕ) → BlankOf M xs q → get_or xs q 0 ≡ 0 → ⊥) where
+  module _ (C : (q : ℕ) → BlankOf M xs q → get_or xs q untold ≡ untold → ⊥) where
     mutual
       unfolding word rest_letters
 
       -- So something is kept for every state that has the empty word.
-      state_kept : (t : Tree) (q : ℕ) (w : Word) → word M q t ≡ some w → length w ≡ 0 → get_or xs q 0 ≡ 0 → ⊥
+      state_kept : (t : Tree) (q : ℕ) (w : Word) → word M q t ≡ some w → length w ≡ 0 → get_or xs q untold ≡ untold → ⊥
       state_kept (node f ts) q w e z =
           let a = word_parts M q f ts w e in
           let long = ap length a.4 ∙ length-append a.0.first a.1 in
@@ -110,14 +110,14 @@ module _ (M : Table) (xs : List ℕ) where
     pub kept_told : Blanks M xs → EmptyTold M (K xs)
     kept_told B q h =
         let e = (kept_held B q (state_kept h.0 q [] h.1 refl)).0 in
-        has_empty (get_or xs q 0) (omega (arith, e))
+        ap (λ (x : Summary). x.empty) e
 
 -- What is told of the empty word is shown by it.
-pub blanks_witnessed : (M : Table) (side : Side) (xs : List ℕ) → Blanks M xs → Witnessed M side (K xs)
+pub blanks_witnessed : (M : Table) (side : Side) (xs : List Summary) → Blanks M xs → Witnessed M side (K xs)
 blanks_witnessed M side xs B q = ⊎_elim nothing_kept kept (B.told q)
   where
-    nothing_kept : get_or xs q 0 ≡ 0 → Shown (Ending side (L M q)) (K xs q)
-    nothing_kept e = subst (Shown (Ending side (L M q))) (sym (ap decode e ∙ nothing_known)) (unknown_shown (Ending side (L M q)))
+    nothing_kept : get_or xs q untold ≡ untold → Shown (Ending side (L M q)) (K xs q)
+    nothing_kept e = subst (Shown (Ending side (L M q))) (sym (ap decode e)) (unknown_shown (Ending side (L M q)))
 
-    kept : (get_or xs q 0 ≡ 1024) × Holds (L M q) [] → Shown (Ending side (L M q)) (K xs q)
-    kept h = subst (Shown (Ending side (L M q))) (sym (ap decode h.0 ∙ blank_alone)) (alone_shown (Ending side (L M q)) none ([], h.1, empty_end side))
+    kept : (get_or xs q untold ≡ only_empty) × Holds (L M q) [] → Shown (Ending side (L M q)) (K xs q)
+    kept h = subst (Shown (Ending side (L M q))) (sym (ap decode h.0)) (alone_shown (Ending side (L M q)) none ([], h.1, empty_end side))

@@ -8,29 +8,31 @@ use lib.ListN.{length, get_or}
 use Rattle.machine.specs.Machine.{Child, Row, Table}
 use Rattle.machine.proofs.Find.{index_row}
 use Rattle.layout.specs.Leaves.{RowAt, RulesOf, state_no}
+use Rattle.summary.specs.Codes.{untold}
+use Rattle.summary.specs.declared.Summary.{Summary}
 use Rattle.empty_words.specs.Blank.{AllBlank, BlankRule, BlankOf}
 
 -- ---- a rule's children
 -- Something is kept for each of the first n children.
-abbrev pub FirstKept : List ℕ → List Child → ℕ → Type 0
-FirstKept xs cs n = (j : ℕ) → j < n → get_or xs (state_no cs j) 0 ≡ 0 → ⊥
+abbrev pub FirstKept : List Summary → List Child → ℕ → Type 0
+FirstKept xs cs n = (j : ℕ) → j < n → get_or xs (state_no cs j) untold ≡ untold → ⊥
 
 -- Something is kept for all.
-pub all_kept : (xs : List ℕ) (cs : List Child) (n : ℕ) → length cs ≤ n → FirstKept xs cs n → AllBlank xs cs
+pub all_kept : (xs : List Summary) (cs : List Child) (n : ℕ) → length cs ≤ n → FirstKept xs cs n → AllBlank xs cs
 unfolding state_no
 all_kept xs [] n l h = tt
 all_kept xs (c ∷ cs) zero l h = absurd (omega arith)
 all_kept xs (c ∷ cs) (suc n) l h = (h 0 (omega arith), all_kept xs cs n (omega arith) (λ j k. h (suc j) (omega arith)))
 
 -- Nothing is kept for one.
-pub one_lacks : (xs : List ℕ) (cs : List Child) (j : ℕ) → j < length cs → get_or xs (state_no cs j) 0 ≡ 0 → AllBlank xs cs → ⊥
+pub one_lacks : (xs : List Summary) (cs : List Child) (j : ℕ) → j < length cs → get_or xs (state_no cs j) untold ≡ untold → AllBlank xs cs → ⊥
 unfolding state_no
 one_lacks xs [] j l z a = omega arith
 one_lacks xs (c ∷ cs) zero l z a = a.0 z
 one_lacks xs (c ∷ cs) (suc j) l z a = one_lacks xs cs j (omega arith) z a.1
 
 -- ---- the rules of a state
-module _ (M : Table) (xs : List ℕ) (from : ℕ) where
+module _ (M : Table) (xs : List Summary) (from : ℕ) where
   -- No rule with a number from `from` on and before i is such a rule.
   abbrev pub NoneBefore : ℕ → Type 0
   NoneBefore i = (j : ℕ) (row : Row) → RowAt M j row → from ≤ j → j < i → BlankRule xs row.rule → ⊥

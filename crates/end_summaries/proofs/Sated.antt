@@ -14,6 +14,7 @@ use Rattle.end_laws.proofs.Sides.{end_empty}
 use Rattle.end_laws.proofs.Rules.{value_shown}
 use Rattle.end_laws.proofs.Known.{Found, at_set}
 use Rattle.summary.specs.Codes.{K, summaries}
+use Rattle.summary.specs.declared.Summary.{Summary}
 use Rattle.summary.proofs.Growing.{summary_all}
 use Rattle.empty_words.specs.Blank.{EmptyTold}
 use Rattle.end_summaries.specs.Steps.{ReadySummaries}
@@ -37,7 +38,7 @@ module _ (M : Table) (side : Side) where
       R.1 row.state (subst (Holds (L M row.state)) (end_empty side s.0 s.2) s.1)
 
   -- No rule adds anything to a state with several letters.
-  pub several_rests : (xs : List ℕ) → ReadySummaries M side (at (summaries xs)) → (row : Row) → Found M side row → (K xs row.state).letters ≡ several
+  pub several_rests : (xs : List Summary) → ReadySummaries M side (at (summaries xs)) → (row : Row) → Found M side row → (K xs row.state).letters ≡ several
       → visit side row (summaries xs) ≡ summaries xs
   several_rests xs R row found e =
       let told = empty_ready (K xs) (subst (ReadySummaries M side) (summary_all xs) R) row found in

@@ -13,12 +13,13 @@ use Rattle.end_laws.proofs.Rules.{closed_covering}
 use Rattle.end_laws.proofs.Known.{visit_settled}
 use Rattle.layout.specs.Layout.{Opened}
 use Rattle.summary.specs.Codes.{decode, K, summaries}
+use Rattle.summary.specs.declared.Summary.{Summary}
 use Rattle.summary.proofs.Growing.{summary_all}
 use Rattle.empty_words.specs.Blank.{EmptyTold, AllListed}
 use Rattle.end_summaries.specs.Steps.{ReadySummaries, Tried, RulesOfListed}
 
 module _ (M : Table) (side : Side) where
-  module _ {tried : ℕ → Row → Type 0} {xs ys : List ℕ} {k : ℕ} (t : Tried M side tried xs ys k) where
+  module _ {tried : ℕ → Row → Type 0} {xs ys : List Summary} {k : ℕ} (t : Tried M side tried xs ys k) where
     -- Rules that are added to what is witnessed leave it so.
     pub tried_witnessed : Witnessed M side (K xs) → Witnessed M side (K ys)
     tried_witnessed W = subst (Witnessed M side) (summary_all ys) (t.keeps (subst (Witnessed M side) (sym (summary_all xs)) W))
@@ -27,7 +28,7 @@ module _ (M : Table) (side : Side) where
     pub tried_told : EmptyTold M (K xs) → EmptyTold M (K ys)
     tried_told T = subst (EmptyTold M) (summary_all ys) (t.tells (subst (EmptyTold M) (sym (summary_all xs)) T))
 
-  module _ {F I : List ℕ} (o : Opened F I M) (O : List ℕ) (n : ℕ) (listed : AllListed M O n) {xs ys : List ℕ} {k : ℕ} (long : length ys ≡ states_most)
+  module _ {F I : List ℕ} (o : Opened F I M) (O : List ℕ) (n : ℕ) (listed : AllListed M O n) {xs ys : List Summary} {k : ℕ} (long : length ys ≡ states_most)
       (t : Tried M side (RulesOfListed O 0 n) xs ys k) (z : k ≡ 0) (R : ReadySummaries M side (K xs)) where
     -- No row adds anything.
     tried_closed : Closed M side (at (summaries ys))

@@ -7,6 +7,7 @@ use Rattle.end_laws.specs.Companion.{visit}
 use Rattle.layout.specs.Layout.{Meant}
 use Rattle.layout.specs.Leaves.{RowAt}
 use Rattle.summary.specs.Codes.{K, summaries}
+use Rattle.summary.specs.declared.Summary.{Summary}
 use Rattle.empty_words.specs.Blank.{EmptyTold, ListedBetween, AllListed}
 
 -- What the summaries claim is witnessed, and they tell of every empty word.
@@ -15,14 +16,14 @@ ReadySummaries M side k = Witnessed M side k × EmptyTold M k
 
 -- Rules of a table are added to the summaries xs, which become ys. What they claim stays witnessed and the empty words stay told.
 -- If both were so and k is 0, then no rule that was tried, by its number and row, adds anything.
-pub record Tried (M : Table) (side : Side) (tried : ℕ → Row → Type 0) (xs ys : List ℕ) (k : ℕ) : Type 0 where
+pub record Tried (M : Table) (side : Side) (tried : ℕ → Row → Type 0) (xs ys : List Summary) (k : ℕ) : Type 0 where
   pub keeps : Witnessed M side (at (summaries xs)) → Witnessed M side (at (summaries ys))
   pub tells : EmptyTold M (at (summaries xs)) → EmptyTold M (at (summaries ys))
   pub rests : ReadySummaries M side (at (summaries xs)) → k ≡ 0 → (i : ℕ) (row : Row) → RowAt M i row → tried i row
       → visit side row (summaries ys) ≡ summaries ys
 
 -- That is so for every table that is opened in the bytes F and the numbers I.
-abbrev pub Adds : List ℕ → List ℕ → Side → (ℕ → Row → Type 0) → List ℕ → List ℕ → ℕ → Type 0
+abbrev pub Adds : List ℕ → List ℕ → Side → (ℕ → Row → Type 0) → List Summary → List Summary → ℕ → Type 0
 Adds F I side tried xs ys k = Meant F I (λ M. Tried M side tried xs ys k)
 
 -- The rules with the numbers from `from` on and before `to`.
@@ -39,6 +40,6 @@ RulesOfListed O j n i row = ListedBetween O j n row.state
 
 -- What settling makes of the summaries xs, for every table that is opened in the bytes F and the numbers I.
 -- What they claim stays witnessed, and where each state is listed and xs is ready, every word fits.
-pub record Settles (F I O : List ℕ) (n : ℕ) (side : Side) (xs ys : List ℕ) : Type 0 where
+pub record Settles (F I O : List ℕ) (n : ℕ) (side : Side) (xs ys : List Summary) : Type 0 where
   pub shown : Meant F I (λ M. Witnessed M side (K xs) → Witnessed M side (K ys))
   pub fits : Meant F I (λ M. AllListed M O n → ReadySummaries M side (K xs) → Covering M side (K ys))

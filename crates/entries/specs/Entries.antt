@@ -6,8 +6,6 @@ use Rattle.machine.specs.Verdict.{Verdict, earliest, late_as}
 use Rattle.promises.specs.Word.{WordCounts}
 use Rattle.promises.specs.Comparison as paper
 use Rattle.promises.specs.Comparison.{Comparison}
-use Rattle.table.specs.declared.Opening.{Opening}
-use Rattle.table.specs.declared.Opening.TheVariants as opening
 
 -- The entries of an answer: a no's place, a length, a number of terms, 1 for same, the table that a no is about; three are kept for later calls.
 abbrev pub eight : ℕ → ℕ → ℕ → ℕ → ℕ → List ℕ
@@ -56,8 +54,3 @@ abbrev pub comparison_entries : Comparison → List ℕ
 comparison_entries paper.same = eight 0 0 0 1 0
 comparison_entries paper.different = blank
 comparison_entries (paper.refusal t x) = no_entries t x
-
--- The answer of opening, without the table: a yes that holds nothing, or the no.
-abbrev pub replied : Opening → Reply (Unit {0})
-replied opening.Table = given tt
-replied (opening.Refused x) = refusal x

@@ -3,20 +3,14 @@
 #![tactic(auto)]
 
 ghost use Rattle.std.specs.Prelude.{◌≡◌};
-ghost use Rattle.verdict.specs.Judgement.{verdict_of};
-ghost use Rattle.why_no_word.specs.Answer as word;
-ghost use Rattle.form_call.specs.Formed as form;
-ghost use Rattle.spelling.specs.Spells.{spelled_told};
+ghost use Rattle.words.specs.Reply.{mapped};
+ghost use Rattle.why_no_word.specs.Answer.{counts_of};
 ghost use Rattle.comparison.specs.Answers.{comparison_of};
-ghost use Rattle.entries.specs.Entries.{eight, blank, no_entries, number_of, entries_of, letters_entries, length_entries, replied};
-ghost use Rattle.entries.specs.Entries.{verdict_number, verdict_entries, comparison_number, comparison_entries};
+ghost use Rattle.entries.specs.Entries.{eight, blank, no_entries, number_of, entries_of, letters_entries, length_entries};
+ghost use Rattle.entries.specs.Entries.{comparison_number, comparison_entries};
 
-use comparison::Compared;
-use form_call::Formed;
-use spelling::Spelled;
-use table::Opening;
-use verdict::Judgement;
-use why_no_word::WordAnswer;
+use comparison::TableNo;
+use why_no_word::Letters;
 use words::No;
 
 // Entries of an answer.
@@ -38,93 +32,56 @@ fn tell_no(refusal: No, table: usize, answer: &mut [usize; ANSWER]) -> u8
     refusal.number
 }
 
-// Tells a yes that holds a length alone: 0, and the length.
-fn tell_length(length: usize, answer: &mut [usize; ANSWER]) -> u8
+// Tells a yes with these entries: 0.
+fn tell_yes(length: usize, terms: usize, same: usize, answer: &mut [usize; ANSWER]) -> u8
     ensures value { result ≡ 0 }
-    ensures answer_after { answer.new ≡ length_entries length }
+    ensures answer_after { answer.new ≡ eight 0 length terms same 0 }
 {
-    *answer = entries(0, length, 0, 0, 0);
+    *answer = entries(0, length, terms, same, 0);
     0
 }
 
 // Tells a word's length and terms, or the no.
-pub fn tell_word(found: WordAnswer, answer: &mut [usize; ANSWER]) -> u8
-    ensures value { result ≡ number_of (word.said found) }
-    ensures answer_after { answer.new ≡ entries_of letters_entries (word.said found) }
+pub fn tell_word(found: Result<Letters, No>, answer: &mut [usize; ANSWER]) -> u8
+    ensures value { result ≡ number_of found }
+    ensures answer_after { answer.new ≡ entries_of letters_entries (mapped counts_of found) }
 {
     match found {
-        WordAnswer::Found(letters) => {
-            *answer = entries(0, letters.length, letters.terms, 0, 0);
-            0
-        }
-        WordAnswer::Refused(refusal) => tell_no(refusal, 0, answer),
-    }
-}
-
-// Tells earliest, or the no.
-pub fn tell_judgement(judgement: Judgement, answer: &mut [usize; ANSWER]) -> u8
-    ensures value { result ≡ verdict_number (verdict_of judgement) }
-    ensures answer_after { answer.new ≡ verdict_entries (verdict_of judgement) }
-{
-    match judgement {
-        Judgement::Earliest => {
-            *answer = entries(0, 0, 0, 0, 0);
-            0
-        }
-        Judgement::Late(refusal) => tell_no(refusal, 0, answer),
-    }
-}
-
-// Tells a form's length, or the no.
-pub fn tell_form(formed: Formed, answer: &mut [usize; ANSWER]) -> u8
-    ensures value { result ≡ number_of (form.said formed) }
-    ensures answer_after { answer.new ≡ entries_of length_entries (form.said formed) }
-{
-    match formed {
-        Formed::Form(length) => tell_length(length, answer),
-        Formed::Refused(refusal) => tell_no(refusal, 0, answer),
+        Ok(letters) => tell_yes(letters.length, letters.terms, 0, answer),
+        Err(refusal) => tell_no(refusal, 0, answer),
     }
 }
 
 // Tells how many bytes a call wrote to the front of the room, or the no.
-pub fn tell_spelled(spelled: Spelled, answer: &mut [usize; ANSWER]) -> u8
-    ensures value { result ≡ number_of (spelled_told spelled) }
-    ensures answer_after { answer.new ≡ entries_of length_entries (spelled_told spelled) }
+pub fn tell_length(written: Result<usize, No>, answer: &mut [usize; ANSWER]) -> u8
+    ensures value { result ≡ number_of written }
+    ensures answer_after { answer.new ≡ entries_of length_entries written }
 {
-    match spelled {
-        Spelled::Bytes(length) => tell_length(length, answer),
-        Spelled::Refused(refusal) => tell_no(refusal, 0, answer),
+    match written {
+        Ok(length) => tell_yes(length, 0, 0, answer),
+        Err(refusal) => tell_no(refusal, 0, answer),
+    }
+}
+
+// Tells a yes that holds nothing, that a text is a table or that a table is earliest; or the no.
+pub fn tell_nothing(answered: Result<(), No>, answer: &mut [usize; ANSWER]) -> u8
+    ensures value { result ≡ number_of answered }
+    ensures answer_after { answer.new ≡ entries_of (λ _. blank) answered }
+{
+    match answered {
+        Ok(()) => tell_yes(0, 0, 0, answer),
+        Err(no) => tell_no(no, 0, answer),
     }
 }
 
 // Tells same or different, or the no with the table that it is about.
-pub fn tell_comparison(compared: Compared, answer: &mut [usize; ANSWER]) -> u8
+pub fn tell_comparison(compared: Result<bool, TableNo>, answer: &mut [usize; ANSWER]) -> u8
     ensures value { result ≡ comparison_number (comparison_of compared) }
     ensures answer_after { answer.new ≡ comparison_entries (comparison_of compared) }
 {
     match compared {
-        Compared::Same => {
-            *answer = entries(0, 0, 0, 1, 0);
-            0
-        }
-        Compared::Different => {
-            *answer = entries(0, 0, 0, 0, 0);
-            0
-        }
-        Compared::Refused { table, refusal } => tell_no(refusal, layout::wide(table), answer),
-    }
-}
-
-// Tells that a text is a table, or the no.
-pub fn tell_opening(opening: Opening, answer: &mut [usize; ANSWER]) -> u8
-    ensures value { result ≡ number_of (replied opening) }
-    ensures answer_after { answer.new ≡ entries_of (λ _. blank) (replied opening) }
-{
-    match opening {
-        Opening::Table => {
-            *answer = entries(0, 0, 0, 0, 0);
-            0
-        }
-        Opening::Refused(refusal) => tell_no(refusal, 0, answer),
+        Ok(true) => tell_yes(0, 0, 1, answer),
+        Ok(false) => tell_yes(0, 0, 0, answer),
+        Err(about) => tell_no(about.refusal, usize::from(about.table), answer),
     }
 }

@@ -13,44 +13,42 @@ ghost use Rattle.spelling.specs.Spells.{Spells};
 ghost use Rattle.form_call.specs.Formed.{FormAnswered};
 ghost use Rattle.comparison.specs.Answers.{comparison_of};
 
-use comparison::Compared;
-use form_call::Formed;
-use spelling::Spelled;
-use verdict::Judgement;
-use why_no_word::WordAnswer;
+use comparison::TableNo;
+use why_no_word::Letters;
+use words::No;
 
 // The word of a tree under a table text, written to the front of the room; or the refusal, and the
 // room as it was.
-pub fn word(text: &[u8], tree: &[u8], room: &mut [u8]) -> WordAnswer
+pub fn word(text: &[u8], tree: &[u8], room: &mut [u8]) -> Result<Letters, No>
     ensures { Answers (word_answer text.now tree.now (length room.old))
         room.old room.new result }
 {
     word_by_text::word(text, tree, room)
 }
 
-// The judgement of a table text.
-pub fn judge(text: &[u8]) -> Judgement
+// The judgement of a table text: earliest, or the refusal.
+pub fn judge(text: &[u8]) -> Result<(), No>
     ensures { JudgementAnswer text.now (verdict_of result) }
 {
     judge_call::judge(text)
 }
 
 // The form of a table text, written to the front of the room; or the refusal, and the room as it was.
-pub fn form(text: &[u8], room: &mut [u8]) -> Formed
+pub fn form(text: &[u8], room: &mut [u8]) -> Result<usize, No>
     ensures { FormAnswered text.now room.old room.new result }
 {
     form_call::form(text, room)
 }
 
-// Compares two table texts: the first's refusals, the second's, then 19; else whether their forms agree.
-pub fn compare(first: &[u8], second: &[u8]) -> Compared
+// Whether two table texts are the same: the first's refusals, the second's, then 19; else whether their forms agree.
+pub fn compare(first: &[u8], second: &[u8]) -> Result<bool, TableNo>
     ensures { ComparisonAnswer first.now second.now (comparison_of result) }
 {
     compare_call::compare(first, second)
 }
 
 // The word of a record under a table text, written to the front of the room; or the refusal, and the room as it was.
-pub fn record_word(text: &[u8], record: &[u8], room: &mut [u8]) -> WordAnswer
+pub fn record_word(text: &[u8], record: &[u8], room: &mut [u8]) -> Result<Letters, No>
     ensures { Answers (on_text word_of_record text.now «record».now (length room.old))
         room.old room.new result }
 {
@@ -58,7 +56,7 @@ pub fn record_word(text: &[u8], record: &[u8], room: &mut [u8]) -> WordAnswer
 }
 
 // The tree bytes of a record under a table text, written to the front of the room; or the refusal, and the room as it was.
-pub fn record_tree(text: &[u8], record: &[u8], room: &mut [u8]) -> Spelled
+pub fn record_tree(text: &[u8], record: &[u8], room: &mut [u8]) -> Result<usize, No>
     ensures { Spells (on_text tree_of_record text.now «record».now (length room.old))
         room.old room.new result }
 {
@@ -67,7 +65,7 @@ pub fn record_tree(text: &[u8], record: &[u8], room: &mut [u8]) -> Spelled
 
 // The record of which tree bytes are the image, under a table text, written to the front of the room; or the refusal, and the room as it
 // was.
-pub fn tree_record(text: &[u8], tree: &[u8], room: &mut [u8]) -> Spelled
+pub fn tree_record(text: &[u8], tree: &[u8], room: &mut [u8]) -> Result<usize, No>
     ensures { Spells (on_text record_of_tree text.now tree.now (length room.old))
         room.old room.new result }
 {

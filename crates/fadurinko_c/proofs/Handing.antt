@@ -1,23 +1,21 @@
 -- What the calls answer is what is handed out for the paper's answers. Assumes nothing.
-use mathlib.Core.Path.{◌≡◌, refl, ap, ◌∙◌}
+use mathlib.Core.Path.{◌≡◌, refl, sym, ap, ◌∙◌}
 use mathlib.Core.List.{List}
 use Prim.Native.Nat.{ℕ}
 use lib.ListN.{length}
 use Rattle.words.specs.Word.{Word}
 use Rattle.words.specs.Reply.{Reply, given, refusal, mapped}
 use Rattle.machine.specs.Machine.{Table}
+use Rattle.machine.specs.Verdict.{Verdict, earliest, late_as}
 use Rattle.promises.specs.Word.{letters_of}
 use Rattle.table.specs.Opening.{Opens, Unchanged}
-use Rattle.table.specs.declared.Opening.{Opening}
-use Rattle.table.specs.declared.Opening.TheVariants as opening
-use Rattle.why_no_word.specs.declared.WordAnswer.{WordAnswer}
-use Rattle.why_no_word.specs.Answer as word
-use Rattle.spelling.specs.declared.Spelled.{Spelled}
-use Rattle.spelling.specs.Spells.{Spells, spelled_told}
-use Rattle.form_call.specs.declared.Formed.{Formed}
+use Rattle.verdict.specs.Judgement.{verdict_of}
+use Rattle.why_no_word.specs.declared.Letters.{Letters}
+use Rattle.why_no_word.specs.Answer.{counts_of, Answers}
+use Rattle.spelling.specs.Spells.{Spells}
 use Rattle.form_call.specs.Formed as form
-use Rattle.entries.specs.Entries.{blank, no_entries, number_of, entries_of, letters_entries, length_entries, replied}
-use Rattle.fadurinko_c.specs.Linked.{WordLinked, SpelledLinked, FormLinked, OpenLinked}
+use Rattle.entries.specs.Entries.{blank, no_entries, number_of, entries_of, letters_entries, length_entries}
+use Rattle.fadurinko_c.specs.Linked.{WordLinked, SpelledLinked, FormLinked, JudgedLinked, OpenLinked}
 
 -- Number and entries stay where a yes gets another value.
 number_mapped : {A B : Type 0} (f : A → B) (a : Reply A) → number_of (mapped f a) ≡ number_of a
@@ -29,18 +27,18 @@ entries_mapped f entries (given a) = refl
 entries_mapped f entries (refusal x) = refl
 
 -- The word call hands out what its definition answers.
-pub word_linked : {a : Reply Word} {R R' E : List ℕ} {f : WordAnswer} {n : ℕ} → word.Answers a R R' f → n ≡ number_of (word.said f)
-    → E ≡ entries_of letters_entries (word.said f) → WordLinked a R R' n E
-word_linked {a} h en ee =
+pub word_linked : {a : Reply Word} {R R' E : List ℕ} {f : Reply Letters} {n : ℕ} → Answers a R R' f → n ≡ number_of f
+    → E ≡ entries_of letters_entries (mapped counts_of f) → WordLinked a R R' n E
+word_linked {a} {f = f} h en ee =
     record {
-      told = en ∙ ap number_of h.answer ∙ number_mapped letters_of a;
+      told = en ∙ sym (number_mapped counts_of f) ∙ ap number_of h.answer ∙ number_mapped letters_of a;
       all = ee ∙ ap (entries_of letters_entries) h.answer ∙ entries_mapped letters_of letters_entries a;
       room = h.room;
     }
 
 -- The tree call and the record call hand out what their definitions answer.
-pub spelled_linked : {a : Reply (List ℕ)} {R R' E : List ℕ} {r : Spelled} {n : ℕ} → Spells a R R' r → n ≡ number_of (spelled_told r)
-    → E ≡ entries_of length_entries (spelled_told r) → SpelledLinked a R R' n E
+pub spelled_linked : {a : Reply (List ℕ)} {R R' E : List ℕ} {r : Reply ℕ} {n : ℕ} → Spells a R R' r → n ≡ number_of r
+    → E ≡ entries_of length_entries r → SpelledLinked a R R' n E
 spelled_linked {a} h en ee =
     record {
       told = en ∙ ap number_of h.answer ∙ number_mapped length a;
@@ -49,8 +47,8 @@ spelled_linked {a} h en ee =
     }
 
 -- The form call hands out what its definition answers.
-pub form_linked : {text R R' E : List ℕ} {r : Formed} {n : ℕ} → form.FormAnswered text R R' r → n ≡ number_of (form.said r)
-    → E ≡ entries_of length_entries (form.said r) → FormLinked text R R' n E
+pub form_linked : {text R R' E : List ℕ} {r : Reply ℕ} {n : ℕ} → form.FormAnswered text R R' r → n ≡ number_of r
+    → E ≡ entries_of length_entries r → FormLinked text R R' n E
 form_linked h en ee =
     record {
       reply = h.reply;
@@ -61,10 +59,16 @@ form_linked h en ee =
     }
 
 -- The opening call hands out what the reading answers, and what was lent.
-pub open_linked : {F I F' I' E : List ℕ} {n : ℕ} (a : Reply Table) (r : Opening) → Opens F' I' a r → Unchanged F I F' I' a → n ≡ number_of (replied r)
-    → E ≡ entries_of (λ _. blank) (replied r) → OpenLinked a F I F' I' n E
-open_linked (given M) opening.Table o u en ee = record { told = en; all = ee; lent = (o, u) }
-open_linked (given M) (opening.Refused x) o u en ee = absurd o
-open_linked (refusal y) opening.Table o u en ee = absurd o
-open_linked (refusal y) (opening.Refused x) o u en ee =
+pub open_linked : {F I F' I' E : List ℕ} {n : ℕ} (a : Reply Table) (r : Reply (Unit {0})) → Opens F' I' a r → Unchanged F I F' I' a → n ≡ number_of r
+    → E ≡ entries_of (λ _. blank) r → OpenLinked a F I F' I' n E
+open_linked (given M) (given _) o u en ee = record { told = en; all = ee; lent = (o, u) }
+open_linked (given M) (refusal x) o u en ee = absurd o
+open_linked (refusal y) (given _) o u en ee = absurd o
+open_linked (refusal y) (refusal x) o u en ee =
     record { told = en ∙ ap (λ z. z.number) o; all = ee ∙ ap (no_entries 0) o; lent = u }
+
+-- A judgement call hands out its verdict.
+pub judged_linked : (Right : Verdict → Type 0) (r : Reply (Unit {0})) {n : ℕ} {E : List ℕ} → Right (verdict_of r) → n ≡ number_of r
+    → E ≡ entries_of (λ _. blank) r → JudgedLinked Right n E
+judged_linked Right (given _) h en ee = record { verdict = earliest; answer = h; told = en; all = ee }
+judged_linked Right (refusal x) h en ee = record { verdict = late_as x; answer = h; told = en; all = ee }

@@ -11,7 +11,6 @@ use Rattle.machine.proofs.Judged.{judged_unique}
 use Rattle.promises.specs.Judgement.{JudgementAnswer}
 use Rattle.promises.specs.Form.{form_room}
 use Rattle.promises.proofs.Judgement.{judgement_one}
-use Rattle.table.specs.declared.Opening.TheVariants as opening
 use Rattle.table.proofs.One.{open_one}
 use Rattle.demands.proofs.Settled.{form_one, comparison_one}
 use Rattle.entries.specs.Entries.{number_of, verdict_number, verdict_entries, comparison_number, comparison_entries}
@@ -29,7 +28,7 @@ spelled_linked_one a R R₁ R₂ n m D E h k = (h.told ∙ sym k.told, h.all ∙
 -- What was lent is the same after two openings that answer alike.
 lent_one : (a : Reply Table) (F I F₁ I₁ F₂ I₂ : List ℕ) → Lent F I F₁ I₁ a → Lent F I F₂ I₂ a → (F₁ ≡ F₂) × (I₁ ≡ I₂)
 lent_one (given M) F I F₁ I₁ F₂ I₂ h k =
-    let o = open_one F I (given M) opening.Table opening.Table F₁ I₁ F₂ I₂ h.0 h.1 k.0 k.1 in
+    let o = open_one F I (given M) (given tt) (given tt) F₁ I₁ F₂ I₂ h.0 h.1 k.0 k.1 in
     (o.1, o.2)
 lent_one (refusal x) F I F₁ I₁ F₂ I₂ h k = (h.0 ∙ sym k.0, h.1 ∙ sym k.1)
 

@@ -11,6 +11,8 @@ ghost use Rattle.promises.specs.Judgement.{JudgementAnswer};
 ghost use Rattle.layout.specs.Layout.{Meant};
 ghost use Rattle.fadurinko_c.specs.Linked.{WordLinked, FormLinked, JudgedLinked, ComparedLinked, OpenLinked};
 
+use layout::OpenTable;
+
 mod record_calls;
 
 // The word of a tree under a table text: its length and terms, and the room begins with it.
@@ -34,7 +36,7 @@ pub extern "C" fn fadurinko_judge(text: &[u8], answer: &mut [usize; entries::ANS
     ensures { JudgedLinked (λ v. JudgementAnswer text.now v) result answer.new }
 {
     let judgement = fadurinko::judge(text);
-    entries::tell_judgement(judgement, answer)
+    entries::tell_nothing(judgement, answer)
 }
 
 // The form of a table text: its length, and the room begins with it.
@@ -47,7 +49,7 @@ pub extern "C" fn fadurinko_form(
     ensures { FormLinked text.now room.old room.new result answer.new }
 {
     let formed = fadurinko::form(text, room);
-    entries::tell_form(formed, answer)
+    entries::tell_length(formed, answer)
 }
 
 // Compares two table texts: same or different, or a no with the table that it is about.
@@ -76,7 +78,7 @@ pub extern "C" fn fadurinko_open(
         frames.new numbers.new result answer.new }
 {
     let opening = table::open(text, frames, numbers);
-    entries::tell_opening(opening, answer)
+    entries::tell_nothing(opening, answer)
 }
 
 // The word of a tree by an opened table. What the plan holds before and after says nothing.
@@ -105,6 +107,6 @@ pub extern "C" fn fadurinko_judge_opened(
 ) -> u8
     ensures { Meant frames.now numbers.now (λ M. JudgedLinked (λ v. verdict.Judged M v) result answer.new) }
 {
-    let judgement = verdict::judge_opened(frames, numbers);
-    entries::tell_judgement(judgement, answer)
+    let judgement = verdict::judge_opened(&OpenTable { frames, numbers });
+    entries::tell_nothing(judgement, answer)
 }

@@ -5,6 +5,8 @@ ghost use Rattle.promises.specs.Records.{word_of_record, tree_of_record, record_
 ghost use Rattle.layout.specs.Layout.{Meant};
 ghost use Rattle.fadurinko_c.specs.Linked.{WordLinked, SpelledLinked};
 
+use layout::OpenTable;
+
 // The word of a record under a table text: its length and terms, and the room begins with it.
 #[unsafe(no_mangle)]
 pub extern "C" fn fadurinko_record_word(
@@ -32,7 +34,7 @@ pub extern "C" fn fadurinko_record_tree(
         room.old room.new result answer.new }
 {
     let spelled = fadurinko::record_tree(text, record, room);
-    entries::tell_spelled(spelled, answer)
+    entries::tell_length(spelled, answer)
 }
 
 // The record of a tree under a table text: how many bytes it has, and the room begins with them.
@@ -47,7 +49,7 @@ pub extern "C" fn fadurinko_tree_record(
         room.old room.new result answer.new }
 {
     let spelled = fadurinko::tree_record(text, tree, room);
-    entries::tell_spelled(spelled, answer)
+    entries::tell_length(spelled, answer)
 }
 
 // The word of a record by an opened table. What `tree` and `plan` hold before and after says nothing.
@@ -82,8 +84,8 @@ pub extern "C" fn fadurinko_record_tree_opened(
         (λ M. SpelledLinked (on_table tree_of_record M «record».now (length room.old))
         room.old room.new result answer.new) }
 {
-    let spelled = record_tree_call::tree(frames, numbers, record, room);
-    entries::tell_spelled(spelled, answer)
+    let spelled = record_tree_call::tree(&OpenTable { frames, numbers }, record, room);
+    entries::tell_length(spelled, answer)
 }
 
 // The record of a tree by an opened table.
@@ -99,6 +101,6 @@ pub extern "C" fn fadurinko_tree_record_opened(
         (λ M. SpelledLinked (on_table record_of_tree M tree.now (length room.old))
         room.old room.new result answer.new) }
 {
-    let spelled = tree_record_call::record(frames, numbers, tree, room);
-    entries::tell_spelled(spelled, answer)
+    let spelled = tree_record_call::record(&OpenTable { frames, numbers }, tree, room);
+    entries::tell_length(spelled, answer)
 }

@@ -1,5 +1,5 @@
 -- A child's fields: what the bytes at a place give, and what an answer says of them.
-use mathlib.Core.Path.{◌≡◌, refl, ap, ◌∙◌}
+use mathlib.Core.Path.{◌≡◌, refl, sym, ap}
 use mathlib.Core.List.{List}
 use Prim.Native.Nat.{ℕ, ◌+◌, ◌<◌, ◌≤◌}
 use native.Mathlib.Omega.{arith}
@@ -9,20 +9,12 @@ use Rattle.words.specs.Word.{Word}
 use Rattle.machine.specs.Machine.{Child}
 use Rattle.text.specs.Fields.{Parsed, got, fault, below, text}
 use Rattle.text.proofs.Fields.{then_inv, below_inv}
-use Rattle.fields.specs.Read.{one_child, ChildAt, ChildRead, fault_of, child_fault_of}
-use Rattle.fields.specs.declared.Field as declared
-use Rattle.fields.specs.declared.Field.TheVariants as field
+use Rattle.std.specs.Prelude.{Result, Ok, Err, IsErrAnd}
+use Rattle.fields.specs.Read.{number_of, one_child, ChildRead}
+use Rattle.fields.specs.declared.Fault.{Fault}
 use Rattle.fields.specs.declared.OneChild.{OneChild}
-use Rattle.fields.specs.declared.OneChild.TheVariants as one
-use Rattle.fields.proofs.Numbers.{IsNumber}
+use Rattle.fields.proofs.Numbers.{handed_on, IsNumber}
 use Rattle.fields.proofs.Words.{IsWord}
-
--- The number of a refused field, and of a refused child.
-pub fault_of_lem : (r : declared.Field) (n k : ℕ) → r ≡ field.Fault k → n ≡ fault_of r → n ≡ k
-fault_of_lem r n k e f = f ∙ ap fault_of e
-
-pub child_fault_of_lem : (r : OneChild) (n k : ℕ) → r ≡ one.Fault k → n ≡ child_fault_of r → n ≡ k
-child_fault_of_lem r n k e f = f ∙ ap child_fault_of e
 
 -- ---- what is refused, and what is read
 
@@ -54,13 +46,14 @@ child_below states bs c r e =
 -- ---- from what is read to the answer, and back
 
 -- A child that is refused.
-pub child_fault : (F : List ℕ) (at end k n : ℕ) (o : Parsed Child) → o ≡ fault k → n ≡ k → ChildRead F at end o (one.Fault n)
-child_fault F at end k n o e f = rw e f
+pub child_fault : (F : List ℕ) (at end then : ℕ) (o : Parsed Child) (e : Fault) (r : Result OneChild Fault) → IsErrAnd r (λ x. x ≡ e)
+    → o ≡ fault (number_of e) → ChildRead F at end then o r
+child_fault F at end then o e r h f = rw (handed_on r e h, f) refl
 
 -- A child that is read.
 pub child_got : (F : List ℕ) (at end states q u n then : ℕ) → IsNumber F at end q u (below states (slice at end F))
     → IsWord F u end n then (text (slice u end F))
-    → ChildRead F at end (one_child states (slice at end F)) (one.Got q then n)
+    → ChildRead F at end then (one_child states (slice at end F)) (Ok (record { state = q; letters = n }))
 child_got F at end states q u n then i w =
     rw (child_read states (slice at end F) q (slice u end F) (slice (u + 1) then F) (slice then end F) i.read w.read)
     (record { state = refl; left = refl; next = omega (arith, i.next, w.next); inside = w.inside; letters = w.long; short = w.short })
@@ -76,14 +69,13 @@ pub record IsChild (F : List ℕ) (at end q then n : ℕ) (o : Parsed Child) : T
   pub inside : then ≤ end
 
 -- An answer with a state says that the child is read.
-pub got_child : (F : List ℕ) (at end q then n : ℕ) (o : Parsed Child) (r : OneChild) → r ≡ one.Got q then n → ChildRead F at end o r
-    → IsChild F at end q then n o
-got_child F at end q then n (got c bs) r e h =
-    let w : ChildAt F bs c at end q then n = rw e at h in
+pub got_child : (F : List ℕ) (at end then : ℕ) (o : Parsed Child) (k : OneChild) → ChildRead F at end then o (Ok k)
+    → IsChild F at end k.state then k.letters o
+got_child F at end then (got c bs) k w =
     record { child = c; read = ap (got c) w.left; state = w.state; letters = w.letters; short = w.short; next = w.next; inside = w.inside }
-got_child F at end q then n (fault k) r e h = absurd (let z : ⊥ = rw e at h in z)
+got_child F at end then (fault n) k h = absurd h
 
--- An answer with a number of no says that it is refused.
-pub fault_child : (F : List ℕ) (at end k : ℕ) (o : Parsed Child) (r : OneChild) → r ≡ one.Fault k → ChildRead F at end o r → o ≡ fault k
-fault_child F at end k (got c bs) r e h = absurd (let z : ⊥ = rw e at h in z)
-fault_child F at end k (fault n) r e h = let z : k ≡ n = rw e at h in cc
+-- An answer with a fault says that it is refused.
+pub fault_child : (F : List ℕ) (at end then : ℕ) (o : Parsed Child) (e : Fault) → ChildRead F at end then o (Err e) → o ≡ fault (number_of e)
+fault_child F at end then (got c bs) e h = absurd h
+fault_child F at end then (fault k) e h = ap fault (sym h)

@@ -10,9 +10,11 @@ use Rattle.machine.specs.Machine.{Child}
 use Rattle.layout.specs.Layout.{rest_letters, first_state, later_states}
 use Rattle.text.specs.Fields.{Parsed, got, fault, Field, and_then, below, text, children}
 use Rattle.text.proofs.Fields.{then_inv}
-use Rattle.fields.specs.Read.{one_child, Family, KidsRead, FirstAfter, RestAfter}
+use Rattle.std.specs.Prelude.{Result, Ok, Err, IsErrAnd}
+use Rattle.fields.specs.Read.{number_of, one_child, Family, KidsRead, FirstAfter, RestAfter}
+use Rattle.fields.specs.declared.Fault.{Fault}
 use Rattle.fields.specs.declared.Kids.{Kids}
-use Rattle.fields.specs.declared.Kids.TheVariants as kids
+use Rattle.fields.proofs.Numbers.{handed_on}
 use Rattle.fields.proofs.Packed.{first_snoc, later_snoc, LaterRoom, room_none, room_more, packed_right}
 use Rattle.fields.proofs.Family.{IsChild, child_below}
 
@@ -77,25 +79,29 @@ letters_snoc (d ∷ cs) c = omega (arith, letters_snoc cs c)
 
 -- ---- all steps so far
 
--- The children acc are read, and `left` children are to be read from `next` on.
-pub record KidsSoFar (F : List ℕ) (at end states count next letters first rest left : ℕ) : Type 0 where
+-- The children acc, `done` of them, are read, and `left` children are to be read from `next` on.
+pub record KidsSoFar (F : List ℕ) (at end states count next letters first rest done : ℕ) : Type 0 where
   pub acc : List Child
-  pub number : length acc + left ≡ count
+  pub left : ℕ
+  pub as_many : done ≡ length acc
+  pub number : done + left ≡ count
   pub from : at ≤ next
   pub inside : next ≤ end
   pub remains : children states count (slice at end F) ≡ front acc (children states left (slice next end F))
   pub all_letters : letters ≡ rest_letters acc
-  pub few : letters ≤ 32 * length acc
+  pub few : letters ≤ 32 * done
   pub first_state_lem : first ≡ first_state acc
   pub first_small : first < 64
   pub later_states_lem : rest ≡ later_states acc
-  pub room : LaterRoom (length acc) rest
+  pub room : LaterRoom done rest
 
 -- Nothing is read yet.
-pub begin : (F : List ℕ) (at end states count : ℕ) → at ≤ end → KidsSoFar F at end states count at 0 0 0 count
+pub begin : (F : List ℕ) (at end states count : ℕ) → at ≤ end → KidsSoFar F at end states count at 0 0 0 0
 unfolding rest_letters first_state later_states
 begin F at end states count h = record {
   acc = [];
+  left = count;
+  as_many = refl;
   number = omega arith;
   from = omega arith;
   inside = h;
@@ -108,43 +114,46 @@ begin F at end states count h = record {
   room = room_none;
 }
 
-module _ {F : List ℕ} {at end states count next letters first rest left : ℕ} (b : KidsSoFar F at end states count next letters first rest left) where
+module _ {F : List ℕ} {at end states count next letters first rest done : ℕ} (b : KidsSoFar F at end states count next letters first rest done) where
   -- A child is refused.
-  pub begun_fault : (k n : ℕ) → 0 < left → one_child states (slice next end F) ≡ fault k → n ≡ k
-      → KidsRead F at end (children states count (slice at end F)) (kids.Fault n)
-  begun_fault k n h e f = rw (b.remains, children_fault states left (slice next end F) k h e) f
+  pub begun_fault : (then : ℕ) (e : Fault) (r : Result Kids Fault) → IsErrAnd r (λ x. x ≡ e) → done < count
+      → one_child states (slice next end F) ≡ fault (number_of e) → KidsRead F at end then (children states count (slice at end F)) r
+  begun_fault then e r h k f =
+      rw (handed_on r e h, b.remains, children_fault states b.left (slice next end F) (number_of e) (omega (arith, b.number)) f) refl
 
   -- A child is read.
-  pub begun_more : (q then n v w : ℕ) → 0 < left → states ≤ 64 → IsChild F next end q then n (one_child states (slice next end F))
-      → FirstAfter (count - left) first q v → RestAfter (count - left) rest q w → KidsSoFar F at end states count then (letters + n) v w (left - 1)
+  pub begun_more : (q then n v w : ℕ) → done < count → states ≤ 64 → IsChild F next end q then n (one_child states (slice next end F))
+      → FirstAfter done first q v → RestAfter done rest q w → KidsSoFar F at end states count then (letters + n) v w (done + 1)
   begun_more q then n v w h k i x y =
       let c : Child = i.child in
       let l = length-append b.acc (c ∷ []) in
-      let done : count - left ≡ length b.acc = omega (arith, b.number) in
+      let some : 0 < b.left = omega (arith, b.number) in
       let lt : q < 64 = omega (arith, child_below states (slice next end F) c (slice then end F) i.read, i.state) in
       record {
         acc = b.acc ++ c ∷ [];
-        number = omega (arith, b.number, l);
+        left = b.left - 1;
+        as_many = omega (arith, b.as_many, l);
+        number = omega (arith, b.number);
         from = omega (arith, b.from, i.next);
         inside = i.inside;
         remains =
-            b.remains ∙ ap (front b.acc) (children_more states left (slice next end F) c (slice then end F) h i.read) ∙
-            front_snoc b.acc c (children states (left - 1) (slice then end F));
+            b.remains ∙ ap (front b.acc) (children_more states b.left (slice next end F) c (slice then end F) some i.read) ∙
+            front_snoc b.acc c (children states (b.left - 1) (slice then end F));
         all_letters = omega (arith, b.all_letters, i.letters, letters_snoc b.acc c);
-        few = omega (arith, b.few, i.short, l);
-        first_state_lem = first_snoc b.acc c (count - left) first q v done b.first_state_lem i.state x;
+        few = omega (arith, b.few, i.short);
+        first_state_lem = first_snoc b.acc c done first q v b.as_many b.first_state_lem i.state x;
         first_small = x.small;
-        later_states_lem = later_snoc b.acc c (count - left) rest q w done b.later_states_lem i.state y;
-        room = rw l (room_more (length b.acc) rest q w lt (rw done at y) b.room);
+        later_states_lem = later_snoc b.acc c done rest q w b.as_many b.later_states_lem i.state y;
+        room = room_more done rest q w lt y b.room;
       }
 
   -- All children are read.
-  pub begun_all : (x : ℕ) → left ≤ 0 → count ≤ 4 → x ≡ first * 2 ^ 21 + rest * 2 ^ 31 + count * 2 ^ 61 → x < 5 * 2 ^ 61
-      → KidsRead F at end (children states count (slice at end F)) (kids.Got next letters x)
+  pub begun_all : (x : ℕ) → count ≤ done → count ≤ 4 → x ≡ first * 2 ^ 21 + rest * 2 ^ 31 + count * 2 ^ 61 → x < 5 * 2 ^ 61
+      → KidsRead F at end next (children states count (slice at end F)) (Ok (record { letters = letters; packed = x }))
   begun_all x h k e m =
-      let l : length b.acc ≡ count = omega (arith, b.number) in
+      let l : length b.acc ≡ count = omega (arith, b.as_many, b.number) in
       let r : children states count (slice at end F) ≡ got b.acc (slice next end F) =
-      b.remains ∙ ap (front b.acc) (children_none states left (slice next end F) h) ∙
+      b.remains ∙ ap (front b.acc) (children_none states b.left (slice next end F) (omega (arith, b.number))) ∙
       ap (λ x. got x (slice next end F)) (append-nil b.acc) in
       rw r (record {
         left = refl;
@@ -152,7 +161,7 @@ module _ {F : List ℕ} {at end states count next letters first rest left : ℕ}
         inside = b.inside;
         letters = b.all_letters;
         packed = packed_right b.acc first rest count x b.first_state_lem b.later_states_lem l e;
-        few = omega (arith, b.few);
+        few = omega (arith, b.few, b.number);
         small = m;
       })
 
@@ -165,14 +174,12 @@ pub record IsFamily (F : List ℕ) (at end then n x : ℕ) (o : Parsed (List Chi
   pub family : Family F (slice then end F) read_children at end then n x
 
 -- An answer with a packed number says so.
-pub got_kids : (F : List ℕ) (at end then n x : ℕ) (o : Parsed (List Child)) (r : Kids) → r ≡ kids.Got then n x → KidsRead F at end o r
-    → IsFamily F at end then n x o
-got_kids F at end then n x (got cs bs) r e h =
-    let f : Family F bs cs at end then n x = rw e at h in
-    record { read_children = cs; read = ap (got cs) f.left; family = rw f.left at f }
-got_kids F at end then n x (fault k) r e h = absurd (let z : ⊥ = rw e at h in z)
+pub got_kids : (F : List ℕ) (at end then : ℕ) (o : Parsed (List Child)) (k : Kids) → KidsRead F at end then o (Ok k)
+    → IsFamily F at end then k.letters k.packed o
+got_kids F at end then (got cs bs) k f = record { read_children = cs; read = ap (got cs) f.left; family = rw f.left at f }
+got_kids F at end then (fault n) k h = absurd h
 
--- An answer with a number of no says that they are refused.
-pub fault_kids : (F : List ℕ) (at end k : ℕ) (o : Parsed (List Child)) (r : Kids) → r ≡ kids.Fault k → KidsRead F at end o r → o ≡ fault k
-fault_kids F at end k (got cs bs) r e h = absurd (let z : ⊥ = rw e at h in z)
-fault_kids F at end k (fault n) r e h = let z : k ≡ n = rw e at h in cc
+-- An answer with a fault says that they are refused.
+pub fault_kids : (F : List ℕ) (at end then : ℕ) (o : Parsed (List Child)) (e : Fault) → KidsRead F at end then o (Err e) → o ≡ fault (number_of e)
+fault_kids F at end then (got cs bs) e h = absurd h
+fault_kids F at end then (fault k) e h = ap fault (sym h)

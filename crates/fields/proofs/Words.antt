@@ -9,11 +9,12 @@ use Rattle.words.specs.Word.{Word}
 use Rattle.text.specs.Fields.{Parsed, got, fault, within, letters, text}
 use Rattle.text.proofs.Fields.{then_got, within_inv}
 use Rattle.text.proofs.Faults.{letters_there, letters_lacking}
-use Rattle.fields.specs.Read.{Stretch, WordRead}
-use Rattle.fields.specs.declared.Field as declared
-use Rattle.fields.specs.declared.Field.TheVariants as field
+use Rattle.std.specs.Prelude.{Result, Ok, Err, IsErrAnd}
+use Rattle.fields.specs.Read.{number_of, NumberRead, WordRead}
+use Rattle.fields.specs.declared.Fault.{Fault}
+use Rattle.fields.specs.declared.Fault.TheVariants.{WrongLength}
 use Rattle.fields.proofs.Slices.{slice_take, slice_drop}
-use Rattle.fields.proofs.Numbers.{IsNumber}
+use Rattle.fields.proofs.Numbers.{handed_on, IsNumber, fault_number}
 
 -- ---- what is refused, and what is read
 
@@ -29,11 +30,11 @@ module _ (F : List ℕ) (at end v then : ℕ) (inside : end ≤ length F) (i : I
   text_letters = then_got _ letters v (slice then end F) i.read
 
   -- The letters run past the end.
-  pub word_lacking : end - then < v → WordRead F at end (text (slice at end F)) (field.Fault 5)
+  pub word_lacking : end - then < v → WordRead F at end then (text (slice at end F)) (Err WrongLength)
   word_lacking h = rw (text_letters, letters_lacking v (slice then end F) (omega (arith, length-slice then end F inside))) refl
 
   -- The word is whole.
-  pub word_got : v ≤ end - then → WordRead F at end (text (slice at end F)) (field.Got v (then + v))
+  pub word_got : v ≤ end - then → WordRead F at end (then + v) (text (slice at end F)) (Ok v)
   word_got h =
       let k : v ≤ length (slice then end F) = omega (arith, length-slice then end F inside) in
       rw (text_letters, letters_there v (slice then end F) k)
@@ -49,8 +50,10 @@ module _ (F : List ℕ) (at end v then : ℕ) (inside : end ≤ length F) (i : I
 -- ---- from what is read to the answer, and back
 
 -- A word that is refused.
-pub word_fault : (F : List ℕ) (at end k : ℕ) (o : Parsed Word) (r : declared.Field) → r ≡ field.Fault k → o ≡ fault k → WordRead F at end o r
-word_fault F at end k o r e f = rw (e, f) refl
+pub word_fault : (F : List ℕ) (at end then : ℕ) (e : Fault) (r : Result ℕ Fault) → IsErrAnd r (λ x. x ≡ e)
+    → NumberRead F at end then (within 0 32 (slice at end F)) (Err e) → WordRead F at end then (text (slice at end F)) r
+word_fault F at end then e r h w =
+    rw (handed_on r e h, text_length (slice at end F) (number_of e) (fault_number F at end then _ e w)) refl
 
 -- The word at `at` is read.
 pub record IsWord (F : List ℕ) (at end n then : ℕ) (o : Parsed Word) : Type 0 where
@@ -61,14 +64,12 @@ pub record IsWord (F : List ℕ) (at end n then : ℕ) (o : Parsed Word) : Type 
   pub inside : then ≤ end
 
 -- An answer with a length says that the word is read.
-pub got_word : (F : List ℕ) (at end n then : ℕ) (o : Parsed Word) (r : declared.Field) → r ≡ field.Got n then → WordRead F at end o r
-    → IsWord F at end n then o
-got_word F at end n then (got u bs) r e h =
-    let w : Stretch F bs u at end n then = rw e at h in
+pub got_word : (F : List ℕ) (at end n then : ℕ) (o : Parsed Word) → WordRead F at end then o (Ok n) → IsWord F at end n then o
+got_word F at end n then (got u bs) w =
     record { read = cc (w.word, w.left); long = w.value ∙ ap length w.word; short = w.short; next = w.next; inside = w.inside }
-got_word F at end n then (fault k) r e h = absurd (let z : ⊥ = rw e at h in z)
+got_word F at end n then (fault k) h = absurd h
 
--- An answer with a number of no says that it is refused.
-pub fault_word : (F : List ℕ) (at end k : ℕ) (o : Parsed Word) (r : declared.Field) → r ≡ field.Fault k → WordRead F at end o r → o ≡ fault k
-fault_word F at end k (got u bs) r e h = absurd (let z : ⊥ = rw e at h in z)
-fault_word F at end k (fault n) r e h = let z : k ≡ n = rw e at h in cc
+-- An answer with a fault says that it is refused.
+pub fault_word : (F : List ℕ) (at end then : ℕ) (o : Parsed Word) (e : Fault) → WordRead F at end then o (Err e) → o ≡ fault (number_of e)
+fault_word F at end then (got u bs) e h = absurd h
+fault_word F at end then (fault k) e h = ap fault (sym h)

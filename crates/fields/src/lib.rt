@@ -1,145 +1,163 @@
-// The fields of a frame, read from left to right: each answers its value and where the next one
-// stands, or a number of no.
+// The fields of a frame, read from left to right by a cursor: each answers its value, or why the
+// frame is refused.
 #![tactic(auto)]
 
 ghost use Rattle.std.specs.Prelude.{◌≡◌, ◌+◌, ◌*◌, ◌^◌, ◌<◌, ◌≤◌, length};
 ghost use Rattle.std.proofs.Math.Seq.{slice};
 ghost use Rattle.text.specs.Fields as text;
-ghost use Rattle.fields.specs.Read.{NumberRead, WordRead, one_child, ChildRead, KidsRead, fault_of, child_fault_of, kids_fault_of, FirstAfter, RestAfter};
+ghost use Rattle.fields.specs.Read.{number_of, ByteRead, NumberRead, WordRead, one_child, ChildRead, KidsRead, Finished, FirstAfter, RestAfter};
 
-// A field's value (of a word, its length) and where the next field stands; or a number of no.
-#[derive(Clone, Copy)]
-pub enum Field {
-    Got { value: usize, next: usize },
-    Fault { number: u8 },
+// Why a frame of a table text is refused.
+#[derive(Clone, Copy, PartialEq, Eq)]
+pub enum Fault {
+    EmptyLine,
+    OutOfOrder,
+    OutOfRange,
+    WrongLength,
 }
 
-// A child's state, where the next field stands, the letters of the word behind it; or a number of
-// no.
-#[derive(Clone, Copy)]
-pub enum OneChild {
-    Got {
-        state: usize,
-        next: usize,
-        letters: usize,
-    },
-    Fault {
-        number: u8,
-    },
-}
-
-// What the children of a rule come to: where the next field stands, the letters of the words behind
-// them, their states and their count in one number; or a number of no.
-#[derive(Clone, Copy)]
-pub enum Kids {
-    Got {
-        next: usize,
-        letters: usize,
-        packed: u64,
-    },
-    Fault {
-        number: u8,
-    },
-}
-
-// A number from `least` to `most`: 5 if its byte is lacking, 4 if it is beyond its range.
-pub fn within(frames: &[u8], at: usize, end: usize, least: usize, most: usize) -> Field
-    requires { (at ≤ end) × (end ≤ length frames.now) }
-    ensures { NumberRead frames.now at end (text.within least most (slice at end frames.now)) result }
-{
-    if at == end {
-        return Field::Fault { number: 5 };
-    }
-    let value = layout::wide(frames[at]);
-    if value < least {
-        return Field::Fault { number: 4 };
-    }
-    if most < value {
-        return Field::Fault { number: 4 };
-    }
-    Field::Got {
-        value,
-        next: at + 1,
-    }
-}
-
-// A state or a symbol, which is below n: 5 if its byte is lacking, 4 if it is not below n.
-pub fn below(frames: &[u8], at: usize, end: usize, n: usize) -> Field
-    requires { (at ≤ end) × (end ≤ length frames.now) }
-    ensures { NumberRead frames.now at end (text.below n (slice at end frames.now)) result }
-{
-    if at == end {
-        return Field::Fault { number: 5 };
-    }
-    let value = layout::wide(frames[at]);
-    if value < n {
-        Field::Got {
-            value,
-            next: at + 1,
+impl Fault {
+    // The number of no that a table text's refusal has.
+    pub fn number(self) -> u8
+        ensures { result ≡ number_of self }
+    {
+        match self {
+            Fault::EmptyLine => 2,
+            Fault::OutOfOrder => 3,
+            Fault::OutOfRange => 4,
+            Fault::WrongLength => 5,
         }
-    } else {
-        Field::Fault { number: 4 }
     }
 }
 
-// A word: its length in one byte, at most 32, and then its letters.
-pub fn word(frames: &[u8], at: usize, end: usize) -> Field
-    requires { (at ≤ end) × (end ≤ length frames.now) }
-    ensures { WordRead frames.now at end (text.text (slice at end frames.now)) result }
-{
-    let got = within(frames, at, end, 0, layout::LETTERS);
-    let Field::Got { value, next } = got else {
-        return got;
-    };
-    if value <= end - next {
-        Field::Got {
-            value,
-            next: next + value,
+// A frame while its fields are read: those that are left stand from `at` to `end`.
+#[derive(Drop)]
+pub struct Cursor<'a> {
+    pub frames: &'a [u8],
+    pub at: usize,
+    pub end: usize,
+    ghost before_end: { at ≤ end },
+    ghost inside: { end ≤ length frames.now },
+}
+
+// A child's state, and the letters of the word behind it.
+#[derive(Clone, Copy)]
+pub struct OneChild {
+    pub state: usize,
+    pub letters: usize,
+}
+
+// What the children of a rule come to: the letters of the words behind them, their states and their
+// count in one number.
+#[derive(Clone, Copy)]
+pub struct Kids {
+    pub letters: usize,
+    pub packed: u64,
+}
+
+impl<'a> Cursor<'a> {
+    // The byte that comes next: 5 if it is lacking.
+    fn byte(&mut self) -> Result<usize, Fault>
+        ensures read { ByteRead self.old.frames.now self.old.at self.old.end self.new.at result }
+        ensures frames { self.new.frames ≡ self.old.frames }
+        ensures end { self.new.end ≡ self.old.end }
+    {
+        if self.at == self.end {
+            return Err(Fault::WrongLength);
         }
-    } else {
-        Field::Fault { number: 5 }
+        let value = usize::from(self.frames[self.at]);
+        self.at += 1;
+        Ok(value)
     }
-}
 
-// The number of a field that is refused, 0 for one that is not.
-pub fn number_of(field: Field) -> u8
-    ensures { result ≡ fault_of field }
-{
-    match field {
-        Field::Got { value: _, next: _ } => 0,
-        Field::Fault { number } => number,
+    // A number from `least` to `most`: 5 if its byte is lacking, 4 if it is beyond its range.
+    pub fn within(&mut self, least: usize, most: usize) -> Result<usize, Fault>
+        ensures read { NumberRead self.old.frames.now self.old.at self.old.end self.new.at
+            (text.within least most (slice self.old.at self.old.end self.old.frames.now)) result }
+        ensures frames { self.new.frames ≡ self.old.frames }
+        ensures end { self.new.end ≡ self.old.end }
+    {
+        let value = self.byte()?;
+        if value < least || most < value {
+            return Err(Fault::OutOfRange);
+        }
+        Ok(value)
     }
-}
 
-// One child: its state, which is below `states`, and a word.
-fn child(frames: &[u8], at: usize, end: usize, states: usize) -> OneChild
-    requires { (at ≤ end) × (end ≤ length frames.now) }
-    ensures { ChildRead frames.now at end (one_child states (slice at end frames.now)) result }
-{
-    let first = below(frames, at, end, states);
-    let Field::Got {
-        value: state,
-        next: u,
-    } = first
-    else {
-        return OneChild::Fault {
-            number: number_of(first),
-        };
-    };
-    let second = word(frames, u, end);
-    let Field::Got {
-        value: letters,
-        next,
-    } = second
-    else {
-        return OneChild::Fault {
-            number: number_of(second),
-        };
-    };
-    OneChild::Got {
-        state,
-        next,
-        letters,
+    // A state or a symbol, which is below n: 5 if its byte is lacking, 4 if it is not below n.
+    pub fn below(&mut self, n: usize) -> Result<usize, Fault>
+        ensures read { NumberRead self.old.frames.now self.old.at self.old.end self.new.at
+            (text.below n (slice self.old.at self.old.end self.old.frames.now)) result }
+        ensures frames { self.new.frames ≡ self.old.frames }
+        ensures end { self.new.end ≡ self.old.end }
+    {
+        let value = self.byte()?;
+        if value < n {
+            Ok(value)
+        } else {
+            Err(Fault::OutOfRange)
+        }
+    }
+
+    // A word's length: one byte, at most 32, and then the word's letters, which are passed over.
+    pub fn word(&mut self) -> Result<usize, Fault>
+        ensures read { WordRead self.old.frames.now self.old.at self.old.end self.new.at
+            (text.text (slice self.old.at self.old.end self.old.frames.now)) result }
+        ensures frames { self.new.frames ≡ self.old.frames }
+        ensures end { self.new.end ≡ self.old.end }
+    {
+        let letters = self.within(0, layout::LETTERS)?;
+        if letters <= self.end - self.at {
+            self.at += letters;
+            Ok(letters)
+        } else {
+            Err(Fault::WrongLength)
+        }
+    }
+
+    // One child: its state, which is below `states`, and a word.
+    fn child(&mut self, states: usize) -> Result<OneChild, Fault>
+        ensures read { ChildRead self.old.frames.now self.old.at self.old.end self.new.at
+            (one_child states (slice self.old.at self.old.end self.old.frames.now)) result }
+        ensures frames { self.new.frames ≡ self.old.frames }
+        ensures end { self.new.end ≡ self.old.end }
+    {
+        let state = self.below(states)?;
+        let letters = self.word()?;
+        Ok(OneChild { state, letters })
+    }
+
+    // The children of a rule, for each its state and a word.
+    pub fn children(&mut self, states: usize, count: usize) -> Result<Kids, Fault>
+        requires { (states ≤ 64) × (count ≤ 4) }
+        ensures read { KidsRead self.old.frames.now self.old.at self.old.end self.new.at
+            (text.children states count (slice self.old.at self.old.end self.old.frames.now)) result }
+        ensures frames { self.new.frames ≡ self.old.frames }
+        ensures end { self.new.end ≡ self.old.end }
+    {
+        let mut letters: usize = 0;
+        let mut first: u64 = 0;
+        let mut rest: u64 = 0;
+        for done in 0..count {
+            let kid = self.child(states)?;
+            first = first_after(done, first, kid.state as u64);
+            rest = rest_after(done, rest, kid.state as u64);
+            letters += kid.letters;
+        }
+        Ok(Kids {
+            letters,
+            packed: packed_of(first, rest, count),
+        })
+    }
+
+    // The end of the frame: 5 for bytes left over.
+    pub fn finish(&self) -> Result<(), Fault>
+        ensures { Finished self.now.at self.now.end result }
+    {
+        if self.at < self.end {
+            return Err(Fault::WrongLength);
+        }
+        Ok(())
     }
 }
 
@@ -165,68 +183,4 @@ fn packed_of(first: u64, rest: u64, count: usize) -> u64
     ensures { (result ≡ first * 2 ^ 21 + rest * 2 ^ 31 + count * 2 ^ 61) × (result < 5 * 2 ^ 61) }
 {
     first * 2097152 + rest * 2147483648 + (count as u64) * 2305843009213693952
-}
-
-// The children of a rule, for each its state and a word.
-pub fn children(frames: &[u8], at: usize, end: usize, states: usize, count: usize) -> Kids
-    requires at_le_end { (at ≤ end) × (end ≤ length frames.now) }
-    requires states_bound { (states ≤ 64) × (count ≤ 4) }
-    ensures { KidsRead frames.now at end (text.children states count (slice at end frames.now)) result }
-{
-    let mut next = at;
-    let mut letters: usize = 0;
-    let mut first: u64 = 0;
-    let mut rest: u64 = 0;
-    let mut left = count;
-    while 0 < left {
-        let got = child(frames, next, end, states);
-        let OneChild::Got {
-            state,
-            next: after,
-            letters: more,
-        } = got
-        else {
-            return Kids::Fault {
-                number: fault_number(got),
-            };
-        };
-        first = first_after(count - left, first, state as u64);
-        rest = rest_after(count - left, rest, state as u64);
-        letters += more;
-        next = after;
-        left -= 1;
-    }
-    Kids::Got {
-        next,
-        letters,
-        packed: packed_of(first, rest, count),
-    }
-}
-
-// The number of a child that is refused, 0 for one that is not.
-fn fault_number(child: OneChild) -> u8
-    ensures { result ≡ child_fault_of child }
-{
-    match child {
-        OneChild::Got {
-            state: _,
-            next: _,
-            letters: _,
-        } => 0,
-        OneChild::Fault { number } => number,
-    }
-}
-
-// The number of children that are refused, 0 for those that are not.
-pub fn kids_number(kids: Kids) -> u8
-    ensures { result ≡ kids_fault_of kids }
-{
-    match kids {
-        Kids::Got {
-            next: _,
-            letters: _,
-            packed: _,
-        } => 0,
-        Kids::Fault { number } => number,
-    }
 }

@@ -1,18 +1,16 @@
 // The form of the table text of a file or on standard input; or `no`, the number and the place.
 #![tactic(auto)]
 
-use console::Input;
-use form_call::Formed;
 use output::Streams;
 
 fn answer(to: Streams, text: &[u8]) {
     let mut room = [0u8; layout::TEXT];
     match fadurinko::form(text, &mut room) {
-        Formed::Form(length) => {
+        Ok(length) => {
             output::print(to, output::front(&room, length));
         }
-        Formed::Refused(no) => {
-            console::print_no(to, &[no.number as u64, no.place as u64]);
+        Err(no) => {
+            console::print_no(to, &[u64::from(no.number), no.place as u64]);
         }
     }
 }
@@ -24,7 +22,7 @@ fn main(rt: HostRuntime) {
     };
     // One byte more than a text may have, so that a longer one is seen to be too long.
     let mut text = [0u8; layout::TEXT + 1];
-    let Input::Bytes(n) = console::read_text(
+    let Some(n) = console::read_text(
         &rt,
         rt.stdin(),
         to,

@@ -5,7 +5,7 @@ use Prim.Native.Nat.{ℕ, ◌<◌, ◌≤◌}
 use native.Mathlib.Omega.{arith}
 use borrow.Author.Tests.{eqb-true, eq-eqb, lt-ltb, le-ltb}
 use lib.ListN.{length, drop, get_or}
-use Rattle.words.specs.Reply.{given, no_at, refused, mapped}
+use Rattle.words.specs.Reply.{Reply, given, refused, mapped}
 use Rattle.machine.specs.Machine.{Table}
 use Rattle.machine.specs.Earliest.{Earliest}
 use Rattle.machine.specs.Form.{Test, Decides, IsForm, form_of}
@@ -18,9 +18,7 @@ use Rattle.visit_queue.specs.Queue.{by_rep}
 use Rattle.form_numbers.specs.Numbers.{StatesNumbered}
 use Rattle.form_length.specs.Long.{FormLong}
 use Rattle.form_writer.specs.Lines.{FormTextWritten}
-use Rattle.form_call.specs.declared.Formed.{Formed}
-use Rattle.form_call.specs.declared.Formed.TheVariants as formed
-use Rattle.form_call.specs.Formed.{said, FormInto}
+use Rattle.form_call.specs.Formed.{FormInto}
 
 -- Classes decide sameness.
 classes_decide : {M : Table} {rep : List ℕ} → Classes M rep → Decides (by_rep rep) M
@@ -41,28 +39,28 @@ pub into_fits : (R out : List ℕ) → length out ≤ length R → into (length 
 into_fits R out h = rw (le-ltb (length R) (length out) h)
 
 -- The form of a table by its classes, where the room is too short for its text.
-short_into : {M : Table} (R : List ℕ) (same : Test) (l : ℕ) (r : Formed) → Decides same M → l ≡ length (write_table (form_of same M)) → length R < l
-    → r ≡ formed.Refused (no_at 12 l) → FormInto M R R r
+short_into : {M : Table} (R : List ℕ) (same : Test) (l : ℕ) (r : Reply ℕ) → Decides same M → l ≡ length (write_table (form_of same M)) → length R < l
+    → r ≡ refused 12 l → FormInto M R R r
 short_into {M} R same l r D e h er =
     let out = write_table (form_of same M) in
     let i : length R < length out = omega arith in
     record {
       form = form_of same M;
       is = form_is same D;
-      answer = ap said er ∙ ap (λ (k : ℕ). refused 12 k) e ∙ sym (ap (mapped length) (into_short R out i));
+      answer = er ∙ ap (λ (k : ℕ). refused 12 k) e ∙ sym (ap (mapped length) (into_short R out i));
       room = sym (ap (filled R) (into_short R out i));
     }
 
 -- The form of a table by its classes, where the room is long enough for its text.
-fits_into : {M : Table} (R R' : List ℕ) (same : Test) (l : ℕ) (r : Formed) → Decides same M → l ≡ length (write_table (form_of same M)) → l ≤ length R
-    → R' ≡ write_table (form_of same M) ++ drop (length (write_table (form_of same M))) R → r ≡ formed.Form l → FormInto M R R' r
+fits_into : {M : Table} (R R' : List ℕ) (same : Test) (l : ℕ) (r : Reply ℕ) → Decides same M → l ≡ length (write_table (form_of same M)) → l ≤ length R
+    → R' ≡ write_table (form_of same M) ++ drop (length (write_table (form_of same M))) R → r ≡ given l → FormInto M R R' r
 fits_into {M} R R' same l r D e h w er =
     let out = write_table (form_of same M) in
     let i : length out ≤ length R = omega arith in
     record {
       form = form_of same M;
       is = form_is same D;
-      answer = ap said er ∙ ap (λ (k : ℕ). given k) e ∙ sym (ap (mapped length) (into_fits R out i));
+      answer = er ∙ ap (λ (k : ℕ). given k) e ∙ sym (ap (mapped length) (into_fits R out i));
       room = w ∙ sym (ap (filled R) (into_fits R out i));
     }
 
@@ -84,11 +82,11 @@ module _ {F I : List ℕ} {M : Table} {rep O N : List ℕ} {n l : ℕ} (h : Meas
   measured_long = h.long (by_rep rep) M N h.opened decides (h.numbered F M h.opened)
 
   -- Where the measured length is more than the room has, 12 and that length is the answer.
-  pub measured_short : {R : List ℕ} {r : Formed} → length R < l → r ≡ formed.Refused (no_at 12 l) → FormInto M R R r
+  pub measured_short : {R : List ℕ} {r : Reply ℕ} → length R < l → r ≡ refused 12 l → FormInto M R R r
   measured_short {R} {r} s er = short_into R (by_rep rep) l r decides measured_long s er
 
   -- Where it is not, what was written is the form's text.
-  pub measured_fits : {R R' : List ℕ} {r : Formed} (k : ℕ) → l ≤ length R → FormTextWritten F I O N n R R' k → r ≡ formed.Form l → FormInto M R R' r
+  pub measured_fits : {R R' : List ℕ} {r : Reply ℕ} (k : ℕ) → l ≤ length R → FormTextWritten F I O N n R R' k → r ≡ given l → FormInto M R R' r
   measured_fits {R} {R'} {r} k s w er =
       let e = measured_long in
       let o = w (by_rep rep) M h.opened decides (h.numbered F M h.opened) in

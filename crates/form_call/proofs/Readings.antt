@@ -4,29 +4,23 @@ use mathlib.Core.List.{List}
 use Prim.Native.Nat.{ℕ}
 use lib.ListN.{length}
 use Rattle.words.specs.declared.No.{No}
-use Rattle.words.specs.Reply.{given, refusal}
+use Rattle.words.specs.Reply.{Reply, given, refusal}
 use Rattle.machine.specs.Earliest.{Earliest}
 use Rattle.text.specs.Writing.{write_table}
 use Rattle.promises.specs.Room.{into}
 use Rattle.layout.specs.Layout.{Meant}
-use Rattle.verdict.specs.declared.Judgement.{Judgement}
-use Rattle.verdict.specs.declared.Judgement.TheVariants as judgement
 use Rattle.judge_call.specs.Judging.{Judges}
 use Rattle.judge_call.proofs.Readings.{judged_late, judged_early}
-use Rattle.form_call.specs.declared.Formed.{Formed}
-use Rattle.form_call.specs.declared.Formed.TheVariants as formed
-use Rattle.form_call.specs.Formed.{FormAnswered, FormInto, late_refusal}
+use Rattle.form_call.specs.Formed.{FormAnswered, FormInto}
 
-module _ {F I T R : List ℕ} {j : Judgement} {r : Formed} (h : Judges T F I j) where
+module _ {F I T R : List ℕ} {j : Reply (Unit {0})} {r : Reply ℕ} (h : Judges T F I j) where
   -- The form call of a text that is not judged earliest: the refusal is handed on, and the room is as it was.
-  pub late_answers : (x : No) → j ≡ judgement.Late x → r ≡ late_refusal j → FormAnswered T R R r
+  pub late_answers : (x : No) → j ≡ refusal x → r ≡ refusal x → FormAnswered T R R r
   late_answers x e er =
-      let d : r ≡ formed.Refused x = er ∙ ap late_refusal e in
-      subst (λ (y : Formed). FormAnswered T R R y) (sym d)
-      (record { reply = refusal x; answer = (refusal x, judged_late x h e, refl); told = refl; room = refl })
+      record { reply = refusal x; answer = (refusal x, judged_late x h e, refl); told = er; room = refl }
 
   -- The form call of an earliest table's text.
-  pub form_answers : {R' : List ℕ} → j ≡ judgement.Earliest → Meant F I (λ M. Earliest M → FormInto M R R' r) → FormAnswered T R R' r
+  pub form_answers : {R' : List ℕ} → j ≡ given tt → Meant F I (λ M. Earliest M → FormInto M R R' r) → FormAnswered T R R' r
   form_answers e f =
       let t = h.opened e in
       let i = f t.table t.opened t.earliest in

@@ -1,4 +1,4 @@
--- Forms worked out: the listing of document 01, and a table whose numbers show the order of the visit.
+-- Forms worked out: the listing of the specification, and a table whose numbers show the order of the visit.
 use mathlib.Core.Path.{◌≡◌, refl, sym, ap, ◌∙◌}
 use mathlib.Core.Bool.{true, false, false≢true}
 use mathlib.Core.List.{[], ◌∷◌, head-eq_of_cons-eq}
@@ -12,7 +12,7 @@ use Rattle.machine.specs.Same.{Same}
 use Rattle.machine.specs.Form.{Test, Decides, rows_of, child_states, number_in, meet, visit, order, renumbered, form_of, IsForm}
 use Rattle.machine.proofs.Small.{row, to, firsts}
 
--- ---- the listing of document 01
+-- ---- the listing of the specification
 -- The table on the left.
 abbrev pub left : Table
 left =

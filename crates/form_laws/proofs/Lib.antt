@@ -25,7 +25,7 @@
 --              forms_agree, forms_same: one form exactly where the words agree; form_of_form
 --   Classes    earliest_known, earliest_listed, earliest_number: in an earliest table every state has the words of a listed one
 --   Size       is_form_states, is_form_rows, is_form_total: the form is never larger. by_number_keeps: its rows keep symbol and words
---   Cases      listing, visited: the listing of document 01, and the order of the visit
+--   Cases      listing, visited: the listing of the specification, and the order of the visit
 pub mod Lists
 pub mod Pigeon
 pub mod Number

@@ -7,7 +7,7 @@ ghost use Rattle.text.specs.Limits.{states_most};
 ghost use Rattle.form_length.specs.Long.{StatesLong, FormLong};
 
 use form_numbers::most;
-use layout::{byte, symbols, wide, word_after, word_before};
+use layout::{OpenTable, byte, symbols, word_after, word_before};
 use rule_leaves::rules_of;
 use word_leaves::lines_length;
 
@@ -17,22 +17,21 @@ fn states_length(numbers: &[u64], order: &[u8], n: usize) -> usize
     ensures upper_bound { result ≤ 3000000 }
     ensures states_long { StatesLong numbers.now order.now n result }
 {
-    let mut i = 0;
     let mut sum = 0;
-    while i < n {
-        let own = rules_of(numbers, wide(byte(order, i)));
+    for i in 0..n {
+        let own = rules_of(numbers, usize::from(byte(order, i)));
         sum += lines_length(numbers, own.from, own.to);
-        i += 1;
     }
     sum
 }
 
 // The length of the form's text, where the first n states of `order` are the states by first visit.
-pub fn length(frames: &[u8], numbers: &[u64], order: &[u8], n: usize) -> usize
-    ensures { FormLong frames.now numbers.now order.now n result }
+// Nothing is asked of n, which may be more than `order` has, so it is no slice of that length.
+pub fn length(table: &OpenTable<'_>, order: &[u8], n: usize) -> usize
+    ensures { FormLong table.now.frames.now table.now.numbers.now order.now n result }
 {
-    let before = word_before(frames, numbers);
-    let after = word_after(frames, numbers);
-    let rules = states_length(numbers, order, most(n));
-    5 * symbols(numbers) + 2 * before.len() + 2 * after.len() + rules + 14
+    let before = word_before(table);
+    let after = word_after(table);
+    let rules = states_length(table.numbers, order, most(n));
+    5 * symbols(table.numbers) + 2 * before.len() + 2 * after.len() + rules + 14
 }

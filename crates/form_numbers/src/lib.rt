@@ -5,33 +5,24 @@ ghost use Rattle.std.specs.Prelude.{◌≡◌, ℕ, ◌-◌, ◌<◌, ◌≤◌,
 ghost use Rattle.text.specs.Limits.{states_most};
 ghost use Rattle.form_numbers.specs.Numbers.{StatesNumbered};
 
-use layout::{STATES, byte, wide};
+use layout::{STATES, byte};
 use visit::visit;
 
 // A number of states: at most as many as a table may have.
 pub fn most(n: usize) -> usize
     ensures { (result ≤ states_most) × (n ≤ states_most → result ≡ n) }
 {
-    if n <= STATES { n } else { STATES }
-}
-
-// One less, and 0 for 0.
-fn less(k: u8) -> u8
-    ensures { result ≡ k - 1 }
-{
-    if k == 0 { 0 } else { k - 1 }
+    n.min(STATES)
 }
 
 // Puts down the number of each state by the mark of its class: one less, 0 where there is none.
-fn fill(rep: &[u8], known: &[u8], names: &mut [u8])
+fn fill(rep: &[u8], known: &[u8; 256], names: &mut [u8])
     requires { states_most ≤ length names.old }
     ensures { (q : ℕ) → q < states_most
         → get_or names.new q 0 ≡ get_or known.now (get_or rep.now q 0) 0 - 1 }
 {
-    let mut q = 0;
-    while q < STATES {
-        names[q] = less(byte(known, wide(byte(rep, q))));
-        q += 1;
+    for q in 0..STATES {
+        names[q] = known[usize::from(byte(rep, q))].saturating_sub(1);
     }
 }
 
@@ -42,8 +33,8 @@ pub fn number(numbers: &[u64], rep: &[u8], order: &mut [u8], names: &mut [u8]) -
     ensures upper_bound { result ≤ states_most }
     ensures states_numbered { StatesNumbered numbers.now rep.now order.new names.new result }
 {
-    let mut known = [0u8; 256];
-    let n = visit(numbers, rep, order, &mut known);
-    fill(rep, &known, names);
-    n
+    let queue = visit(numbers, rep);
+    order[..STATES].copy_from_slice(&queue.order);
+    fill(rep, &queue.known, names);
+    queue.count
 }

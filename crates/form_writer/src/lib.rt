@@ -5,28 +5,25 @@
 ghost use Rattle.form_writer.specs.Lines.{FormTextWritten};
 
 use crate::lines::{put_initial, put_symbols};
-use digits::{put, put_byte};
+use digits::Pen;
 use form_numbers::most;
 use form_rows::put_states;
+use layout::OpenTable;
 
 mod lines;
 
 // Writes the form's text, where the first n states of `order` are the states by first visit, and `names` has the number of each state.
-pub fn write(
-    frames: &[u8],
-    numbers: &[u64],
-    order: &[u8],
-    n: usize,
-    names: &[u8],
-    room: &mut [u8],
-) -> usize
-    ensures { FormTextWritten frames.now numbers.now order.now names.now n
+// Nothing is asked of the length of `order`, so n stands beside it.
+pub fn write(table: &OpenTable<'_>, order: &[u8], n: usize, names: &[u8], room: &mut [u8]) -> usize
+    ensures { FormTextWritten table.now.frames.now table.now.numbers.now order.now names.now n
         room.old room.new result }
 {
     let states = most(n);
-    let first = put_symbols(frames, numbers, room, 0);
-    let initial = put_initial(frames, numbers, states, room, first);
-    let rules = put_states(frames, numbers, order, states, names, room, initial);
-    let end = put_byte(room, rules, 4);
-    put(room, end, 10)
+    let mut pen = Pen::new(room);
+    put_symbols(&mut pen, table);
+    put_initial(&mut pen, table, states);
+    put_states(&mut pen, table, order, states, names);
+    pen.put_byte(4);
+    pen.put(10);
+    pen.at
 }

@@ -12,15 +12,18 @@ use Rattle.text.proofs.ByKind.{step_empty, step_01, step_02, step_03, step_04, s
 use Rattle.fields.proofs.Slices.{slice_none, slice_byte}
 use Rattle.head_frames.specs.Staged.{AtSymbols, AtRules, Staged, Stepped}
 use Rattle.head_frames.specs.declared.Stage.{Stage}
-use Rattle.head_frames.specs.declared.Next.{Next}
-use Rattle.head_frames.specs.declared.Next.TheVariants as next
+use Rattle.std.specs.Prelude.{Result, Err}
+use Rattle.fields.specs.declared.Fault.{Fault}
+use Rattle.fields.specs.declared.Fault.TheVariants.{EmptyLine, OutOfOrder}
+use Rattle.head_frames.specs.declared.Phase.TheVariants as phase
+use Rattle.head_frames.specs.declared.Note.{Note}
 
 -- What the frame of n bytes behind those that are used makes of the stage s.
-abbrev Makes : List ℕ → List ℕ → Stage → ℕ → text.Stage → Next → Type 0
+abbrev Makes : List ℕ → List Note → Stage → ℕ → text.Stage → Result Stage Fault → Type 0
 Makes F R st n s r = Stepped F R (text.step s (slice st.used (st.used + n) F)) r
 
 -- A frame of no bytes.
-pub step_none : (F R : List ℕ) (st : Stage) (n : ℕ) (s : text.Stage) → n ≡ 0 → Makes F R st n s (next.Wrong 2)
+pub step_none : (F : List ℕ) (R : List Note) (st : Stage) (n : ℕ) (s : text.Stage) → n ≡ 0 → Makes F R st n s (Err EmptyLine)
 step_none F R st n s e = rw (slice_none F st.used (st.used + n) (omega arith), step_empty s) refl
 
 -- ---- kinds that are due
@@ -28,10 +31,10 @@ step_none F R st n s e = rw (slice_none F st.used (st.used + n) (omega arith), s
 -- A frame of this kind is due at the stage.
 abbrev KindDue : ℕ → Stage → Type 0
 KindDue zero st = ⊥
-KindDue (suc zero) st = st.phase ≡ 0
-KindDue (suc (suc zero)) st = (st.phase ≡ 0) × (0 < st.head.symbols)
-KindDue (suc (suc (suc zero))) st = st.phase ≡ 1
-KindDue (suc (suc (suc (suc zero)))) st = st.phase ≡ 1
+KindDue (suc zero) st = st.phase ≡ phase.Symbols
+KindDue (suc (suc zero)) st = (st.phase ≡ phase.Symbols) × (0 < st.head.symbols)
+KindDue (suc (suc (suc zero))) st = st.phase ≡ phase.Rules
+KindDue (suc (suc (suc (suc zero)))) st = st.phase ≡ phase.Rules
 KindDue (suc (suc (suc (suc (suc k))))) st = ⊥
 
 -- A kind that is none of the four is not.
@@ -44,7 +47,7 @@ unknown (suc (suc (suc (suc zero)))) st h₁ h₂ h₃ h₄ d = h₄ refl
 unknown (suc (suc (suc (suc (suc k))))) st h₁ h₂ h₃ h₄ d = d
 
 -- A kind that is not due is refused.
-not_due : (F R : List ℕ) (st : Stage) (s : text.Stage) (kind : ℕ) (bs : List ℕ) → Staged F R st s → (KindDue kind st → ⊥)
+not_due : (F : List ℕ) (R : List Note) (st : Stage) (s : text.Stage) (kind : ℕ) (bs : List ℕ) → Staged F R st s → (KindDue kind st → ⊥)
     → text.step s (kind ∷ bs) ≡ text.wrong 3
 not_due F R st s kind bs d h = go s d
   where
@@ -58,18 +61,18 @@ not_due F R st s kind bs d h = go s d
     go (ended M) a = step_ended kind bs M
 
 -- While symbols come, the stage is that of the symbols so far.
-at_symbols : (P : text.Stage → Type 0) (F R : List ℕ) (st : Stage) (s : text.Stage) → Staged F R st s → st.phase ≡ 0
+at_symbols : (P : text.Stage → Type 0) (F : List ℕ) (R : List Note) (st : Stage) (s : text.Stage) → Staged F R st s → st.phase ≡ phase.Symbols
     → ((ks : List ℕ) → AtSymbols F st ks → P (symbols ks)) → P s
 at_symbols P F R st (symbols ks) d e f = f ks d
-at_symbols P F R st (rules M) d e f = absurd (omega (arith, d.phase))
-at_symbols P F R st (ended M) d e f = absurd (omega (arith, d.phase))
+at_symbols P F R st (rules M) d e f = absurd (cc d.phase)
+at_symbols P F R st (ended M) d e f = absurd (cc d.phase)
 
 -- While rules come, it is that of the table so far.
-at_rules : (P : text.Stage → Type 0) (F R : List ℕ) (st : Stage) (s : text.Stage) → Staged F R st s → st.phase ≡ 1
+at_rules : (P : text.Stage → Type 0) (F : List ℕ) (R : List Note) (st : Stage) (s : text.Stage) → Staged F R st s → st.phase ≡ phase.Rules
     → ((M : Table) → AtRules F R st M → P (rules M)) → P s
-at_rules P F R st (symbols ks) d e f = absurd (omega (arith, d.phase))
+at_rules P F R st (symbols ks) d e f = absurd (cc d.phase)
 at_rules P F R st (rules M) d e f = f M d
-at_rules P F R st (ended M) d e f = absurd (omega (arith, d.phase))
+at_rules P F R st (ended M) d e f = absurd (cc d.phase)
 
 -- ---- by kind
 
@@ -93,36 +96,33 @@ module _ {F : List ℕ} {st : Stage} {n : ℕ} (there : FrameThere F st n) where
   kind_first : slice st.used (st.used + n) F ≡ kind ∷ fields
   kind_first = slice_byte F st.used (st.used + n) kind (omega (arith, there.some)) there.inside refl
 
-  module _ (R : List ℕ) (s : text.Stage) (d : Staged F R st s) where
+  module _ (R : List Note) (s : text.Stage) (d : Staged F R st s) where
     -- A kind that is not due.
-    pub step_undue : (R' : List ℕ) (k : ℕ) → kind ≡ k → (KindDue k st → ⊥) → Makes F R' st n s (next.Wrong 3)
+    pub step_undue : (R' : List Note) (k : ℕ) → kind ≡ k → (KindDue k st → ⊥) → Makes F R' st n s (Err OutOfOrder)
     step_undue R' k e h = rw (kind_first, not_due F R st s kind fields d (λ w. h (subst (λ j. KindDue j st) e w))) refl
 
     -- A kind that is unknown.
-    pub step_unknown : (R' : List ℕ) → (kind ≡ 1 → ⊥) → (kind ≡ 2 → ⊥) → (kind ≡ 3 → ⊥) → (kind ≡ 4 → ⊥) → Makes F R' st n s (next.Wrong 3)
+    pub step_unknown : (R' : List Note) → (kind ≡ 1 → ⊥) → (kind ≡ 2 → ⊥) → (kind ≡ 3 → ⊥) → (kind ≡ 4 → ⊥) → Makes F R' st n s (Err OutOfOrder)
     step_unknown R' h₁ h₂ h₃ h₄ = step_undue R' kind refl (unknown kind st h₁ h₂ h₃ h₄)
 
     -- Frame 01 while symbols come.
-    pub step_symbol : (r : Next) → kind ≡ 1 → st.phase ≡ 0
-        → ((S ks : List ℕ) → AtSymbols F st ks → kind ≡ 1 → Stepped F S (whole (symbol_frame ks fields)) r) → Makes F R st n s r
+    pub step_symbol : (r : Result Stage Fault) → kind ≡ 1 → st.phase ≡ phase.Symbols
+        → ((S : List Note) (ks : List ℕ) → AtSymbols F st ks → kind ≡ 1 → Stepped F S (whole (symbol_frame ks fields)) r) → Makes F R st n s r
     step_symbol r e p o = at_symbols (λ s. Makes F R st n s r) F R st s d p λ ks a. rw (kind_first, step_01 kind fields ks e) (o R ks a e)
 
     -- Frame 02 behind a symbol.
-    pub step_start : (r : Next) → kind ≡ 2 → st.phase ≡ 0 → 0 < st.head.symbols
-        → ((S ks : List ℕ) → AtSymbols F st ks → kind ≡ 2 → Stepped F S (whole (start_frame ks fields)) r) → Makes F R st n s r
+    pub step_start : (r : Result Stage Fault) → kind ≡ 2 → st.phase ≡ phase.Symbols → 0 < st.head.symbols
+        → ((S : List Note) (ks : List ℕ) → AtSymbols F st ks → kind ≡ 2 → Stepped F S (whole (start_frame ks fields)) r) → Makes F R st n s r
     step_start r e p l o =
         at_symbols (λ s. Makes F R st n s r) F R st s d p λ ks a.
         rw (kind_first, step_02 kind fields ks (omega (arith, a.symbols)) e) (o R ks a e)
 
     -- Frame 03 behind the initial rule.
-    pub step_rule : (R' : List ℕ) (r : Next) → kind ≡ 3 → st.phase ≡ 1
+    pub step_rule : (R' : List Note) (r : Result Stage Fault) → kind ≡ 3 → st.phase ≡ phase.Rules
         → ((M : Table) → AtRules F R st M → kind ≡ 3 → Stepped F R' (whole (rule_frame M fields)) r) → Makes F R' st n s r
     step_rule R' r e p o = at_rules (λ s. Makes F R' st n s r) F R st s d p λ M a. rw (kind_first, step_03 kind fields M e) (o M a e)
 
     -- Frame 04 behind the initial rule.
-    pub step_end : (r : Next) → kind ≡ 4 → st.phase ≡ 1
-        → ((G S : List ℕ) (M : Table) → AtRules G S st M → get_or G st.used 0 ≡ 4 → st.used + n ≤ length G
-        → Stepped G S (whole (end_frame M (slice (st.used + 1) (st.used + n) G))) r) → Makes F R st n s r
-    step_end r e p o =
-        at_rules (λ s. Makes F R st n s r) F R st s d p λ M a.
-        rw (kind_first, step_04 kind fields M e) (o F R M a e there.inside)
+    pub step_end : (r : Result Stage Fault) → kind ≡ 4 → st.phase ≡ phase.Rules
+        → ((S : List Note) (M : Table) → AtRules F S st M → kind ≡ 4 → Stepped F S (whole (end_frame M fields)) r) → Makes F R st n s r
+    step_end r e p o = at_rules (λ s. Makes F R st n s r) F R st s d p λ M a. rw (kind_first, step_04 kind fields M e) (o R M a e)

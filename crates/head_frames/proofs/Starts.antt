@@ -21,9 +21,12 @@ use Rattle.fields.proofs.Words.{IsWord}
 use Rattle.head_frames.specs.Staged.{head_of, kept, AtSymbols, AtRules, Stepped, behind_start}
 use Rattle.head_frames.specs.declared.Head.{Head}
 use Rattle.head_frames.specs.declared.Stage.{Stage}
-use Rattle.head_frames.specs.declared.Next.{Next}
-use Rattle.head_frames.specs.declared.Next.TheVariants as next
+use Rattle.std.specs.Prelude.{Result, Ok, Err, IsErrAnd}
+use Rattle.fields.specs.Read.{Finished}
+use Rattle.fields.specs.declared.Fault.{Fault}
+use Rattle.head_frames.specs.declared.Phase.TheVariants as phase
 use Rattle.head_frames.proofs.StepFrames.{stepped_left, stepped_ready, frame_more, frame_long}
+use Rattle.head_frames.specs.declared.Note.{Note}
 
 -- The table behind frame 02.
 abbrev started : List ℕ → ℕ → Word → ℕ → Word → Table
@@ -36,8 +39,8 @@ start_bytes : (n q : ℕ) (u v bs r r₁ r₂ r₃ : List ℕ) → bs ≡ n ∷ 
     → bs ≡ n ∷ text_of u ++ q ∷ text_of v
 start_bytes n q u v bs r r₁ r₂ r₃ e e₁ e₂ e₃ e₄ = rw (e, e₁, e₂, e₃, e₄, append-nil v)
 
--- Of no rule no number is kept.
-noted_none : (p : ℕ) → ◌≡◌ {A = List ℕ} [] (kept 0 p [])
+-- Of no rule nothing is noted.
+noted_none : (p : ℕ) → ◌≡◌ {A = List Note} [] (kept 0 p [])
 unfolding kept
 noted_none p = refl
 
@@ -99,8 +102,9 @@ module _ {F : List ℕ} (ks : List ℕ) {at end n b : ℕ} (i : IsNumber F at en
         taken = then_got _ _ n _ i.read ∙ then_got _ _ u _ i₁.read ∙ then_got _ _ q _ i₂.read ∙ then_got _ _ v _ i₃.read
 
         -- Bytes are left over.
-        pub start_over : (R : List ℕ) → then < end → end ≤ length F → Stepped F R (whole (start_frame ks (slice at end F))) (next.Wrong 5)
-        start_over R h l = stepped_left F R _ _ then end taken h l
+        pub start_over : (R : List Note) (e : Fault) (r : Result Stage Fault) → IsErrAnd r (λ x. x ≡ e) → Finished then end (Err e) → end ≤ length F
+            → Stepped F R (whole (start_frame ks (slice at end F))) r
+        start_over R e r w h l = stepped_left F R _ e r w _ then end taken h l
 
         module _ {st : Stage} (z : AtSymbols F st ks) (all : end ≤ then) (next_to : at ≡ st.used + 1) (inside : end ≤ length F)
             (kind : get_or F st.used 0 ≡ 2) where
@@ -127,7 +131,7 @@ module _ {F : List ℕ} (ks : List ℕ) {at end n b : ℕ} (i : IsNumber F at en
           frames_end = frame_long F end _ inside frames_with
 
           -- The table with no rule yet.
-          start_staged : (R : List ℕ) → AtRules F R (behind_start st.head.symbols n q b c end) (started ks n u q v)
+          start_staged : (R : List Note) → AtRules F R (behind_start st.head.symbols n q b c end) (started ks n u q v)
           start_staged R =
               let long = length_symbols ks in
               let u0 : b ≡ (head_of (started ks n u q v)).before = omega (arith, i.next, z.used) in
@@ -150,14 +154,13 @@ module _ {F : List ℕ} (ks : List ℕ) {at end n b : ℕ} (i : IsNumber F at en
               }
 
           -- The stage behind the initial rule.
-          pub start_next : (R : List ℕ) (r : Next) → r ≡ next.Ready (behind_start st.head.symbols n q b c end)
-              → Stepped F R (whole (start_frame ks (slice at end F))) r
-          start_next R r e = stepped_ready F R _ _ then end taken _ r i₃.inside all (start_staged R) e
+          pub start_next : (R : List Note) → Stepped F R (whole (start_frame ks (slice at end F))) (Ok (behind_start st.head.symbols n q b c end))
+          start_next R = stepped_ready F R _ _ then end taken _ i₃.inside all (start_staged R)
 
 -- ---- the beginning
 
 -- No symbol yet.
-pub begin_staged : (F : List ℕ) (st : Stage) → st.phase ≡ 0 → st.head.symbols ≡ 0 → st.used ≡ 0 → AtSymbols F st []
+pub begin_staged : (F : List ℕ) (st : Stage) → st.phase ≡ phase.Symbols → st.head.symbols ≡ 0 → st.used ≡ 0 → AtSymbols F st []
 unfolding symbol_frames
 begin_staged F st e₁ e₂ e₃ =
     record { phase = e₁; symbols = e₂; few = omega arith; small = tt; used = e₃; frames = ap (λ n. take n F) e₃ }

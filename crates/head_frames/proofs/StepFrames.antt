@@ -8,45 +8,46 @@ use lib.Seq.{slice, take-take, slice-cons, length-take-le}
 use Rattle.words.specs.Word.{Word}
 use Rattle.text.specs.Fields.{Parsed, got, fault}
 use Rattle.text.specs.Frames as text
-use Rattle.fields.specs.Read.{NumberRead, WordRead, fault_of}
-use Rattle.fields.specs.declared.Field.{Field}
-use Rattle.fields.specs.declared.Field.TheVariants as field
+use Rattle.std.specs.Prelude.{Result, Ok, Err, IsErrAnd}
+use Rattle.fields.specs.Read.{number_of, NumberRead, WordRead, Finished}
+use Rattle.fields.specs.declared.Fault.{Fault}
 use Rattle.fields.proofs.Slices.{slice_none, slice_byte}
-use Rattle.fields.proofs.Numbers.{fault_number}
+use Rattle.fields.proofs.Numbers.{handed_on, fault_number}
 use Rattle.fields.proofs.Words.{fault_word}
 use Rattle.head_frames.specs.Staged.{Staged, Stepped}
 use Rattle.head_frames.specs.declared.Stage.{Stage}
-use Rattle.head_frames.specs.declared.Next.{Next}
-use Rattle.head_frames.specs.declared.Next.TheVariants as next
+use Rattle.head_frames.specs.declared.Note.{Note}
 
-module _ (F R : List ℕ) (p : Parsed text.Stage) where
-  -- A number of no is answered.
-  pub stepped_wrong : (k : ℕ) (r : Next) → p ≡ fault k → r ≡ next.Wrong k → Stepped F R (text.whole p) r
-  stepped_wrong k r e f = rw (e, f) refl
+-- A field or the frame itself is refused, and the fault is handed on.
+module _ (F : List ℕ) (R : List Note) (p : Parsed text.Stage) (e : Fault) where
+  pub stepped_wrong : p ≡ fault (number_of e) → Stepped F R (text.whole p) (Err e)
+  stepped_wrong f = rw f refl
 
-  module _ (s : text.Stage) (then end : ℕ) (e : p ≡ got s (slice then end F)) where
+  module _ (r : Result Stage Fault) (told : IsErrAnd r (λ x. x ≡ e)) where
+    -- A fault is handed on.
+    pub stepped_fault : p ≡ fault (number_of e) → Stepped F R (text.whole p) r
+    stepped_fault f = rw (handed_on r e told, f) refl
+
+    -- A number field is refused.
+    pub number_stops : (at end then : ℕ) (o : Parsed ℕ) → NumberRead F at end then o (Err e)
+        → (o ≡ fault (number_of e) → p ≡ fault (number_of e)) → Stepped F R (text.whole p) r
+    number_stops at end then o w h = stepped_fault (h (fault_number F at end then o e w))
+
+    -- A word field is refused.
+    pub word_stops : (at end then : ℕ) (o : Parsed Word) → WordRead F at end then o (Err e)
+        → (o ≡ fault (number_of e) → p ≡ fault (number_of e)) → Stepped F R (text.whole p) r
+    word_stops at end then o w h = stepped_fault (h (fault_word F at end then o e w))
+
     -- Bytes are left over.
-    pub stepped_left : then < end → end ≤ length F → Stepped F R (text.whole p) (next.Wrong 5)
-    stepped_left h k = rw (e, slice-cons then end F 0 h k) refl
-
-    -- The frame is read to its end.
-    pub stepped_ready : (st : Stage) (r : Next) → then ≤ end → end ≤ then → Staged F R st s → r ≡ next.Ready st
+    pub stepped_left : (s : text.Stage) (then end : ℕ) → p ≡ got s (slice then end F) → Finished then end (Err e) → end ≤ length F
         → Stepped F R (text.whole p) r
-    stepped_ready st r h k d f = rw (e, f, slice_none F then end (omega arith)) d
+    stepped_left s then end f (h, g) k = rw (handed_on r e told, g, f, slice-cons then end F 0 h k) refl
 
--- A field that is refused, and with it the frame: its number is answered.
-module _ (F R : List ℕ) (at end k : ℕ) (p : Parsed text.Stage) (f : Field) (r : Next) (told : f ≡ field.Fault k) (says : r ≡ next.Wrong (fault_of f)) where
-  -- The number that is answered is the field's.
-  says_it : r ≡ next.Wrong k
-  says_it = says ∙ ap (λ x. next.Wrong (fault_of x)) told
-
-  -- A number field is refused.
-  pub number_stops : (o : Parsed ℕ) → NumberRead F at end o f → (o ≡ fault k → p ≡ fault k) → Stepped F R (text.whole p) r
-  number_stops o w h = stepped_wrong F R p k r (h (fault_number F at end k o f told w)) says_it
-
-  -- A word field is refused.
-  pub word_stops : (o : Parsed Word) → WordRead F at end o f → (o ≡ fault k → p ≡ fault k) → Stepped F R (text.whole p) r
-  word_stops o w h = stepped_wrong F R p k r (h (fault_word F at end k o f told w)) says_it
+-- The frame is read to its end.
+pub stepped_ready : (F : List ℕ) (R : List Note) (p : Parsed text.Stage) (s : text.Stage) (then end : ℕ) → p ≡ got s (slice then end F) → (st : Stage) → then ≤
+    end
+    → end ≤ then → Staged F R st s → Stepped F R (text.whole p) (Ok st)
+stepped_ready F R p s then end e st h k d = rw (e, slice_none F then end (omega (arith))) d
 
 -- The bytes up to a frame's end are those before it, its kind, and its fields.
 pub frame_more : (F : List ℕ) (used at end : ℕ) (front fields : List ℕ) (kind : ℕ) → used < end → end ≤ length F → at ≡ used + 1

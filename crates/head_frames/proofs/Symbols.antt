@@ -1,5 +1,5 @@
 -- Frame 01 while symbols are read: what the frame's answer is, by what its field gave.
-use mathlib.Core.Path.{◌≡◌, refl, sym, ap, ◌∙◌}
+use mathlib.Core.Path.{◌≡◌, sym, ap, ◌∙◌}
 use mathlib.Core.Bool.{true}
 use mathlib.Core.List.{List, [], ◌∷◌, ◌++◌}
 use Prim.Native.Nat.{ℕ, ◌+◌, ◌<◌, ◌≤◌}
@@ -20,8 +20,12 @@ use Rattle.fields.proofs.Slices.{slice_none}
 use Rattle.fields.proofs.Numbers.{IsNumber}
 use Rattle.head_frames.specs.Staged.{AtSymbols, Stepped}
 use Rattle.head_frames.specs.declared.Stage.{Stage}
-use Rattle.head_frames.specs.declared.Next.TheVariants as next
+use Rattle.std.specs.Prelude.{Result, Ok, Err, IsErrAnd}
+use Rattle.fields.specs.Read.{Finished}
+use Rattle.fields.specs.declared.Fault.{Fault}
+use Rattle.head_frames.specs.declared.Phase.TheVariants as phase
 use Rattle.head_frames.proofs.StepFrames.{stepped_left, stepped_ready, frame_more, frame_long}
+use Rattle.head_frames.specs.declared.Note.{Note}
 
 module _ {F : List ℕ} {st : Stage} {ks : List ℕ} (d : AtSymbols F st ks) (at end : ℕ) where
   -- A 65th symbol.
@@ -46,8 +50,9 @@ module _ {F : List ℕ} {st : Stage} {ks : List ℕ} (d : AtSymbols F st ks) (at
       taken = check_got (ltb (length ks) symbols_most) 4 _ (slice at end F) has_room ∙ then_got _ _ a (slice then end F) i.read
 
       -- Bytes are left over.
-      pub symbol_over : (R : List ℕ) → then < end → end ≤ length F → Stepped F R (text.whole (symbol_frame ks (slice at end F))) (next.Wrong 5)
-      symbol_over R h l = stepped_left F R _ _ then end taken h l
+      pub symbol_over : (R : List Note) (e : Fault) (r : Result Stage Fault) → IsErrAnd r (λ x. x ≡ e) → Finished then end (Err e) → end ≤ length F
+          → Stepped F R (text.whole (symbol_frame ks (slice at end F))) r
+      symbol_over R e r w h l = stepped_left F R _ e r w _ then end taken h l
 
       module _ (whole : end ≤ then) (next_to : at ≡ st.used + 1) (inside : end ≤ length F) (kind : get_or F st.used 0 ≡ 1) where
         -- The arity is at most 4, and its byte is the frame's only field.
@@ -66,13 +71,13 @@ module _ {F : List ℕ} {st : Stage} {ks : List ℕ} (d : AtSymbols F st ks) (at
         frames_with = frame_more F st.used at end _ _ 1 some inside next_to d.frames kind field_alone ∙ sym (symbols_more ks a)
 
         -- The stage behind the symbol.
-        pub symbol_next : (R : List ℕ) (st' : Stage) → st'.phase ≡ 0 → st'.head.symbols ≡ st.head.symbols + 1 → st'.used ≡ end
-            → Stepped F R (text.whole (symbol_frame ks (slice at end F))) (next.Ready st')
-        symbol_next R st' phase count used = stepped_ready F R _ _ then end taken st' _ i.inside whole (record {
-          phase = phase;
+        pub symbol_next : (R : List Note) (st' : Stage) → st'.phase ≡ phase.Symbols → st'.head.symbols ≡ st.head.symbols + 1 → st'.used ≡ end
+            → Stepped F R (text.whole (symbol_frame ks (slice at end F))) (Ok st')
+        symbol_next R st' is_phase count used = stepped_ready F R _ _ then end taken st' i.inside whole (record {
+          phase = is_phase;
           symbols = omega (arith, d.symbols, length-append ks (a ∷ []));
           few = omega (arith, d.symbols, length-append ks (a ∷ []));
           small = most_append arity_most ks (a ∷ []) d.small (arity_read.0, tt);
           used = used ∙ frame_long F end _ inside frames_with;
           frames = ap (λ n. take n F) used ∙ frames_with;
-        }) refl
+        })

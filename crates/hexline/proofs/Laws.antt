@@ -2,7 +2,6 @@
 use mathlib.Core.Path.{◌≡◌, refl, sym, ap, subst, ◌∙◌}
 use mathlib.Core.Bool.{Bool, true, false}
 use mathlib.Core.List.{List, [], ◌∷◌, ◌++◌, append_assoc, append-nil}
-use mathlib.Core.Logic.{inl, inr}
 use mathlib.Core.Option.{Option, none, some, some-injective, none-ne-some}
 use Prim.Native.Nat.{ℕ, suc, ◌+◌, ◌-◌, ◌*◌, ◌/◌, ◌%◌, ◌<◌, ◌≤◌}
 use native.Mathlib.Numerals.{add-one}
@@ -11,53 +10,43 @@ use borrow.Author.Tests.{ltb-true, ltb-false, le-leb, lt-leb}
 use lib.Dec.{ltb}
 use lib.ListN.{length, take, drop, get_or, length-append, length-take, length-drop, length-set}
 use lib.Seq.{take_all, take-suc, take-append-le, take-suc-set}
+use Rattle.std.specs.Prelude.{Some, None}
 use Rattle.words.specs.Told.{Told}
-use Rattle.words.proofs.Told.{told_yes, told_no}
+use Rattle.words.proofs.Told.{told_no}
 use Rattle.text.specs.Lines.{digit, joined, bytes_of, hex_of}
 use Rattle.text.specs.Writing.{AtMost}
 use Rattle.text.proofs.Digits.{digit_digit_of, bytes_hex, bytes_small}
 use Rattle.hexline.specs.SoFar.{Value, ByteStored, TreeBytes, any_of, State, whole, waits, strange, LineHeld, WholeBytes, UpToFeed}
 use Rattle.hexline.specs.declared.SoFar.{SoFar}
+use Rattle.hexline.specs.declared.End.{End}
+use Rattle.hexline.specs.declared.End.TheVariants as end
 
 -- ---- digits
 
 -- The decimal digits have their values.
-pub value_low : (c : ℕ) → 48 ≤ c → c ≤ 57 → Value c (c - 48)
+pub value_low : (c : ℕ) → 48 ≤ c → c ≤ 57 → Value c (Some (c - 48))
 unfolding digit
-value_low c h k = inl (omega arith, rw (le-leb 0x30 c h, le-leb c 0x39 k, digit))
+value_low c h k = (omega arith, rw (le-leb 0x30 c h, le-leb c 0x39 k, digit))
 
 -- The letters from a to f have theirs.
-pub value_high : (c : ℕ) → 97 ≤ c → c ≤ 102 → Value c (c - 87)
+pub value_high : (c : ℕ) → 97 ≤ c → c ≤ 102 → Value c (Some (c - 97 + 10))
 unfolding digit
-value_high c h k =
-    let e : c - 0x61 + 10 ≡ c - 87 = omega arith in
-    inl (omega arith, rw (le-leb 0x30 c (omega arith), lt-leb c 0x39 (omega arith), le-leb 0x61 c h, le-leb c 0x66 k, digit) (ap some e))
+value_high c h k = (omega arith, rw (le-leb 0x30 c (omega arith), lt-leb c 0x39 (omega arith), le-leb 0x61 c h, le-leb c 0x66 k, digit))
 
 -- Below the digits is none.
-pub value_below : (c : ℕ) → c < 48 → Value c 16
+pub value_below : (c : ℕ) → c < 48 → Value c None
 unfolding digit
-value_below c h = inr (refl, rw (lt-leb 0x30 c h, lt-leb 0x61 c (omega arith), digit))
+value_below c h = rw (lt-leb 0x30 c h, lt-leb 0x61 c (omega arith), digit)
 
 -- Nor between digits and letters.
-pub value_between : (c : ℕ) → 57 < c → c < 97 → Value c 16
+pub value_between : (c : ℕ) → 57 < c → c < 97 → Value c None
 unfolding digit
-value_between c h k = inr (refl, rw (le-leb 0x30 c (omega arith), lt-leb c 0x39 h, lt-leb 0x61 c k, digit))
+value_between c h k = rw (le-leb 0x30 c (omega arith), lt-leb c 0x39 h, lt-leb 0x61 c k, digit)
 
 -- Nor above the letters.
-pub value_above : (c : ℕ) → 102 < c → Value c 16
+pub value_above : (c : ℕ) → 102 < c → Value c None
 unfolding digit
-value_above c h =
-    inr (refl, rw (le-leb 0x30 c (omega arith), lt-leb c 0x39 (omega arith), le-leb 0x61 c (omega arith), lt-leb c 0x66 h, digit))
-
--- A value below 16 is a digit's.
-value_digit : (c v : ℕ) → Value c v → v ≤ 15 → digit c ≡ some v
-value_digit c v (inl d) h = d.1
-value_digit c v (inr d) h = absurd (omega (arith, d.0))
-
--- Any other is none's.
-value_none : (c v : ℕ) → Value c v → 15 < v → digit c ≡ none
-value_none c v (inl d) h = absurd (omega (arith, d.0))
-value_none c v (inr d) h = d.1
+value_above c h = rw (le-leb 0x30 c (omega arith), lt-leb c 0x39 (omega arith), le-leb 0x61 c (omega arith), lt-leb c 0x66 h, digit)
 
 -- ---- bytes
 
@@ -141,65 +130,62 @@ any_more [] c = refl
 any_more (x ∷ cs) c = refl
 
 -- A line of which nothing has come.
-pub held_none : (T : List ℕ) → LineHeld [] T (record { bytes = 0; half = 16; bad = false; any = false })
+pub held_none : (T : List ℕ) → LineHeld [] T (record { bytes = 0; end = end.Whole; any = false })
 unfolding bytes_of
-held_none T = record { any = refl; state = whole [] refl refl refl (record { many = omega arith; front = refl }) }
+held_none T = record { any = refl; state = whole [] refl refl (record { many = omega arith; front = refl }) }
+
+-- The digit of a line that ends with one, and any number for another line.
+abbrev digit_in : End → ℕ
+digit_in end.Whole = 0
+digit_in (end.Digit h) = h
+digit_in end.Strange = 0
 
 module _ {cs T : List ℕ} {l : SoFar} where
-  -- A line with another character in it is no bytes.
-  pub told_bad : l.bad ≡ true → LineHeld cs T l → Told (WholeBytes cs T l.bytes) false
-  told_bad e h = told_no (λ w. go h.state w.0 w.1)
+  -- A line that does not end with a whole byte is no bytes.
+  pub told_other : (l.end ≡ end.Whole → ⊥) → LineHeld cs T l → Told (WholeBytes cs T l.bytes) false
+  told_other e h = told_no (λ w. go h.state w.0 w.1)
     where
       go : State cs T l → (bs : List ℕ) → bytes_of cs ≡ some bs → ⊥
-      go (whole ds b f g k) bs i = let z : ◌≡◌ {A = ℕ} 0 1 = cc in omega arith
-      go (waits front ds x b f g j m k) bs i = let z : ◌≡◌ {A = ℕ} 0 1 = cc in omega arith
+      go (whole ds f g k) bs i = e f
+      go (waits front ds x d f j g m n k) bs i = let z : ◌≡◌ {A = ℕ} 0 1 = cc (ap bytes_of g, bytes_odd front ds x n) in omega arith
       go (strange b n) bs i = let z : ◌≡◌ {A = ℕ} 0 1 = cc (append-nil cs, n []) in omega arith
 
-  -- Any other is whole bytes where no digit waits.
-  pub told_half : {r : Bool} → (l.half ≡ 16 → r ≡ true) → (l.half < 16 → r ≡ false) → l.bad ≡ false → LineHeld cs T l
-      → Told (WholeBytes cs T l.bytes) r
-  told_half {r} yes-16 no-16 e h = go h.state
-    where
-      go : State cs T l → Told (WholeBytes cs T l.bytes) r
-      go (whole bs b f g k) = rw (yes-16 f) (told_yes (bs, g, k))
-      go (waits front bs x b f g i j k) =
-          rw (no-16 f)
-          (told_no (λ w. let z : ◌≡◌ {A = ℕ} 0 1 = cc (w.1, ap bytes_of g, bytes_odd front bs x j) in omega arith))
-      go (strange b n) = absurd (let z : ◌≡◌ {A = ℕ} 0 1 = cc in omega arith)
-
-  module _ (c d : ℕ) (v : Value c d) where
+  module _ (c : ℕ) where
     -- Another character comes, and the line says so.
-    pub fed_strange : {r : SoFar} → r.bad ≡ true → r.any ≡ true → 15 < d → LineHeld cs T l → LineHeld (cs ++ c ∷ []) T r
-    fed_strange {r} s a i h = record { any = a ∙ any_more cs c; state = strange s (go h.state) }
+    pub fed_strange : Value c None → LineHeld cs T l → LineHeld (cs ++ c ∷ []) T (record { bytes = l.bytes; end = end.Strange; any = true })
+    fed_strange v h = record { any = any_more cs c; state = strange refl (go h.state) }
       where
         go : State cs T l → (more : List ℕ) → bytes_of ((cs ++ c ∷ []) ++ more) ≡ none
-        go (whole bs b f e k) more = rw append_assoc (bytes_append cs (c ∷ more) bs none e (strange_first c more (value_none c d v i)))
-        go (waits front bs x b f e g j k) more =
+        go (whole bs f e k) more = rw append_assoc (bytes_append cs (c ∷ more) bs none e (strange_first c more v))
+        go (waits front bs x d f i e g j k) more =
             rw (e, append_assoc (front ++ x ∷ []), append_assoc)
-            (bytes_append front (x ∷ c ∷ more) bs none j (strange_second x c l.half more g (value_none c d v i)))
+            (bytes_append front (x ∷ c ∷ more) bs none j (strange_second x c d more g v))
         go (strange b n) more = strange_more cs c n more
 
     -- A digit comes where none waits.
-    pub fed_waits : d ≤ 15 → 15 < l.half → LineHeld cs T l
-        → LineHeld (cs ++ c ∷ []) T (record { bytes = l.bytes; half = d; bad = l.bad; any = true })
-    fed_waits i w h = record { any = any_more cs c; state = go h.state }
+    pub fed_waits : (d : ℕ) → Value c (Some d) → l.end ≡ end.Whole → LineHeld cs T l
+        → LineHeld (cs ++ c ∷ []) T (record { bytes = l.bytes; end = end.Digit d; any = true })
+    fed_waits d v w h = record { any = any_more cs c; state = go h.state }
       where
-        go : State cs T l → State (cs ++ c ∷ []) T (record { bytes = l.bytes; half = d; bad = l.bad; any = true })
-        go (whole bs b f e k) = waits cs bs c b (omega arith) refl (value_digit c d v i) e k
-        go (waits front bs x b f e g j k) = absurd (omega arith)
-        go (strange b n) = strange b (strange_more cs c n)
+        go : State cs T l → State (cs ++ c ∷ []) T (record { bytes = l.bytes; end = end.Digit d; any = true })
+        go (whole bs f e k) = waits cs bs c d refl v.0 refl v.1 e k
+        go (waits front bs x m f i e g j k) = absurd (let z : ◌≡◌ {A = ℕ} 0 1 = cc in omega arith)
+        go (strange b n) = absurd (let z : ◌≡◌ {A = ℕ} 0 1 = cc in omega arith)
 
     -- The fellow of a waiting digit comes.
-    pub fed_byte : {T' : List ℕ} {b r : ℕ} → d ≤ 15 → l.half ≤ 15 → ByteStored b T l.bytes T' r → b ≡ l.half * 16 + d
+    pub fed_byte : (m d : ℕ) {T' : List ℕ} {b r : ℕ} → Value c (Some d) → l.end ≡ end.Digit m → ByteStored b T l.bytes T' r
+        → (m < 16 → b ≡ m * 16 + d)
         → LineHeld cs T l
-        → LineHeld (cs ++ c ∷ []) T' (record { bytes = r; half = 16; bad = l.bad; any = true })
-    fed_byte {T'} {b} {r} i w s q h = record { any = any_more cs c; state = go h.state }
+        → LineHeld (cs ++ c ∷ []) T' (record { bytes = r; end = end.Whole; any = true })
+    fed_byte m d {T'} {b} {r} v w s q h = record { any = any_more cs c; state = go h.state }
       where
-        go : State cs T l → State (cs ++ c ∷ []) T' (record { bytes = r; half = 16; bad = l.bad; any = true })
-        go (whole bs t f e k) = absurd (omega arith)
-        go (waits front bs x t f e g j k) =
-            whole (bs ++ b ∷ []) t refl (rw (e, append_assoc, q) (bytes_byte front bs x c l.half d j g (value_digit c d v i))) (kept_more k s)
-        go (strange t n) = strange t (strange_more cs c n)
+        go : State cs T l → State (cs ++ c ∷ []) T' (record { bytes = r; end = end.Whole; any = true })
+        go (whole bs f e k) = absurd (let z : ◌≡◌ {A = ℕ} 0 1 = cc in omega arith)
+        go (waits front bs x n f i e g j k) =
+            let same : n ≡ m = ap digit_in (sym f ∙ w) in
+            let high : digit x ≡ some m = g ∙ ap some same in
+            whole (bs ++ b ∷ []) refl (rw (e, append_assoc, q (omega arith)) (bytes_byte front bs x c m d j high v.1)) (kept_more k s)
+        go (strange t n) = absurd (let z : ◌≡◌ {A = ℕ} 0 1 = cc in omega arith)
 
 -- ---- the characters of a piece
 
@@ -229,6 +215,13 @@ module _ {P T₀ : List ℕ} {l₀ : SoFar} {T : List ℕ} {l : SoFar} {n : ℕ}
       go k i true t = g.before k (ltb-true k n t)
       go k i false t = let s : k ≡ n = omega (arith, ltb-false k n t) in rw s no-feed
 
+  -- All are taken.
+  pub fed_all : length P ≤ n → (cs : List ℕ) → LineHeld cs T₀ l₀ → LineHeld (cs ++ take (length P) P) T l
+  fed_all h cs i =
+      let j = g.inside in
+      let e : n ≡ length P = omega arith in
+      subst (λ (k : ℕ). LineHeld (cs ++ take k P) T l) e (g.held cs i)
+
   -- The piece ends there, or a line feed stands there.
   pub fed_taken : (n < length P → get_or P n 0 ≡ 0x0a) → UpToFeed P n
   fed_taken e = record { inside = g.inside; before = g.before; end = e }
@@ -242,6 +235,6 @@ pub held_bytes : (cs T bs : List ℕ) (l : SoFar) → LineHeld cs T l → bytes_
 held_bytes cs T bs l h e = go h.state
   where
     go : State cs T l → TreeBytes bs T l.bytes
-    go (whole xs b f g k) = subst (λ (ys : List ℕ). TreeBytes ys T l.bytes) (some-injective _ _ (sym g ∙ e)) k
-    go (waits front xs c b f g d i k) = absurd (none-ne-some bs (sym (bytes_odd front xs c i) ∙ ap bytes_of (sym g) ∙ e))
+    go (whole xs f g k) = subst (λ (ys : List ℕ). TreeBytes ys T l.bytes) (some-injective _ _ (sym g ∙ e)) k
+    go (waits front xs c d f m g j i k) = absurd (none-ne-some bs (sym (bytes_odd front xs c i) ∙ ap bytes_of (sym g) ∙ e))
     go (strange b n) = absurd (none-ne-some bs (sym (n []) ∙ ap bytes_of (append-nil cs) ∙ e))

@@ -1,12 +1,14 @@
 -- What is known of a line of hexadecimal of which some characters have come. Definitions only.
-use Rattle.std.specs.Prelude.{◌≡◌, Bool, true, false, List, [], ◌∷◌, ◌++◌, ◌⊎◌, ℕ, ◌+◌, ◌<◌, ◌≤◌, min, length, take, get_or, set}
+use Rattle.std.specs.Prelude.{◌≡◌, Bool, true, false, List, [], ◌∷◌, ◌++◌, ℕ, ◌+◌, ◌<◌, ◌≤◌, min, length, take, get_or, set, Option, Some, None}
 use Rattle.std.proofs.Math.Option.{none, some}
 use Rattle.text.specs.Lines.{digit, bytes_of}
 use Rattle.hexline.specs.declared.SoFar.{SoFar}
+use Rattle.hexline.specs.declared.End.TheVariants as end
 
--- The value of a digit, or 16 for any other character.
-abbrev pub Value : ℕ → ℕ → Type 0
-Value c v = ((v < 16) × (digit c ≡ some v)) ⊎ ((v ≡ 16) × (digit c ≡ none))
+-- The value of a digit, or none for any other character.
+abbrev pub Value : ℕ → Option ℕ → Type 0
+Value c (Some v) = (v < 16) × (digit c ≡ some v)
+Value c None = digit c ≡ none
 
 -- A byte stored behind the first n of the tree, where there is a place.
 pub record ByteStored (b : ℕ) (T : List ℕ) (n : ℕ) (T' : List ℕ) (r : ℕ) : Type 0 where
@@ -26,11 +28,10 @@ any_of (c ∷ cs) = true
 -- The characters cs have come, and the line tells of them: they are whole bytes; or whole bytes and one digit that waits for its
 -- fellow; or, whatever comes yet, no bytes.
 pub data State (cs T : List ℕ) (l : SoFar) : Type 0 where
-  whole : (bs : List ℕ) → l.bad ≡ false → l.half ≡ 16 → bytes_of cs ≡ some bs → TreeBytes bs T l.bytes → State cs T l
-  waits : (front bs : List ℕ) (c : ℕ) → l.bad ≡ false → l.half < 16 → cs ≡ front ++ c ∷ [] → digit c ≡ some l.half
-      → bytes_of front ≡ some bs
+  whole : (bs : List ℕ) → l.end ≡ end.Whole → bytes_of cs ≡ some bs → TreeBytes bs T l.bytes → State cs T l
+  waits : (front bs : List ℕ) (c h : ℕ) → l.end ≡ end.Digit h → h < 16 → cs ≡ front ++ c ∷ [] → digit c ≡ some h → bytes_of front ≡ some bs
       → TreeBytes bs T l.bytes → State cs T l
-  strange : l.bad ≡ true → ((more : List ℕ) → bytes_of (cs ++ more) ≡ none) → State cs T l
+  strange : l.end ≡ end.Strange → ((more : List ℕ) → bytes_of (cs ++ more) ≡ none) → State cs T l
 
 -- That state, and whether anything has come.
 pub record LineHeld (cs T : List ℕ) (l : SoFar) : Type 0 where

@@ -5,16 +5,21 @@ ghost use Rattle.std.specs.Prelude.{◌≡◌, List, [], ◌∷◌, ◌++◌, �
 ghost use Rattle.words.specs.Told.{Told};
 ghost use Rattle.hexline.specs.SoFar.{Value, ByteStored, LineHeld, WholeBytes, UpToFeed};
 
-// What the waiting digit is where none waits.
-pub const NONE: u8 = 16;
+// How a line ends: with a whole byte, with a digit that waits for its fellow, or with no byte whatever comes, since another character
+// was in it.
+#[derive(Clone, Copy)]
+pub enum End {
+    Whole,
+    Digit(u8),
+    Strange,
+}
 
-// A line so far: how many bytes it has given, the digit that waits for its fellow, whether another
-// character was in it and whether anything was.
+// A line so far: how many bytes it has given, how it ends and whether anything was in it. That is no end of its own, since a line goes
+// on from nothing as from a whole byte.
 #[derive(Clone, Copy)]
 pub struct SoFar {
     pub bytes: usize,
-    pub half: u8,
-    pub bad: bool,
+    pub end: End,
     pub any: bool,
 }
 
@@ -31,8 +36,7 @@ pub fn start() -> SoFar
 {
     SoFar {
         bytes: 0,
-        half: NONE,
-        bad: false,
+        end: End::Whole,
         any: false,
     }
 }
@@ -41,35 +45,26 @@ pub fn start() -> SoFar
 pub fn is_hex(line: SoFar) -> bool
     ensures { (cs tree : List ℕ) → LineHeld cs tree line → Told (WholeBytes cs tree line.bytes) result }
 {
-    if line.bad {
-        return false;
-    }
-    15 < line.half
+    matches!(line.end, End::Whole)
 }
 
-// The value of a lowercase hexadecimal digit, or NONE.
-fn digit(c: u8) -> u8
+// The value of a lowercase hexadecimal digit.
+fn digit(c: u8) -> Option<u8>
     ensures { Value c result }
 {
-    if 48 <= c {
-        if c <= 57 {
-            return c - 48;
-        }
+    match c {
+        b'0'..=b'9' => Some(c - b'0'),
+        b'a'..=b'f' => Some(c - b'a' + 10),
+        _ => None,
     }
-    if 97 <= c {
-        if c <= 102 {
-            return c - 87;
-        }
-    }
-    NONE
 }
 
 // The byte of two digits.
 fn join(high: u8, low: u8) -> u8
-    requires { (high < 16) × (low < 16) }
-    ensures { result ≡ high * 16 + low }
+    requires { low < 16 }
+    ensures { high < 16 → result ≡ high * 16 + low }
 {
-    high * 16 + low
+    high.wrapping_mul(16) + low
 }
 
 // Stores a byte where the tree has a place for it, and answers how many bytes there are then.
@@ -78,39 +73,31 @@ fn store(b: u8, tree: &mut [u8], bytes: usize) -> usize
 {
     if bytes < tree.len() {
         tree[bytes] = b;
-        return bytes + 1;
+        bytes + 1
+    } else {
+        bytes
     }
-    bytes
 }
 
 // The line with one character more.
 fn feed(line: SoFar, c: u8, tree: &mut [u8]) -> SoFar
     ensures { (cs : List ℕ) → LineHeld cs tree.old line → LineHeld (cs ++ c ∷ []) tree.new result }
 {
-    let d = digit(c);
-    let bytes = line.bytes;
-    if 15 < d {
+    let Some(d) = digit(c) else {
         return SoFar {
-            bytes,
-            half: NONE,
-            bad: true,
+            bytes: line.bytes,
+            end: End::Strange,
             any: true,
         };
-    }
-    let half = line.half;
-    if 15 < half {
-        return SoFar {
-            bytes,
-            half: d,
-            bad: line.bad,
-            any: true,
-        };
-    }
-    let bytes = store(join(half, d), tree, bytes);
+    };
+    let (bytes, end) = match line.end {
+        End::Whole => (line.bytes, End::Digit(d)),
+        End::Digit(high) => (store(join(high, d), tree, line.bytes), End::Whole),
+        End::Strange => (line.bytes, End::Strange),
+    };
     SoFar {
         bytes,
-        half: NONE,
-        bad: line.bad,
+        end,
         any: true,
     }
 }
@@ -122,14 +109,14 @@ pub fn feed_all(line: SoFar, piece: &[u8], tree: &mut [u8]) -> Fed
         → LineHeld (cs ++ take result.taken piece.now) tree.new result.line }
 {
     let mut line = line;
-    let mut taken = 0;
-    while taken < piece.len() {
-        let c = piece[taken];
-        if c == b'\n' {
+    for (taken, c) in piece.iter().enumerate() {
+        if *c == b'\n' {
             return Fed { line, taken };
         }
-        line = feed(line, c, tree);
-        taken += 1;
+        line = feed(line, *c, tree);
     }
-    Fed { line, taken }
+    Fed {
+        line,
+        taken: piece.len(),
+    }
 }

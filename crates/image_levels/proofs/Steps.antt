@@ -20,8 +20,6 @@ use Rattle.trees.specs.Shape.{read_tree, tree_most, depth_most}
 use Rattle.records.specs.Records.{Element, Labels, bytes_of, image, spell}
 use Rattle.records.specs.Symbols.{RecordSymbols}
 use Rattle.records.proofs.Ranked.{image_refused}
-use Rattle.image_levels.specs.declared.ImageLevels.TheVariants as levels
-use Rattle.image_levels.specs.LevelsTold.{levels_told}
 use Rattle.image_levels.proofs.Row.{row, row_read, row_none, row_leaf, row_label, row_end}
 use Rattle.image_levels.proofs.Spelt.{SymbolsFor, spelt_long, spelt_at, spelt_low, spelt_last, image_spelt}
 
@@ -168,7 +166,7 @@ module _ {B : List ℕ} {leaf : ℕ} {W : List ℕ} {top left i : ℕ} (t : Clim
   only_ten {x} {q} k = told_ten ar a r x q s h sized.most k
 
   -- Where no level is left, 10 is told.
-  pub climbing_deeper : left ≡ 0 → levels_told (levels.Deeper i) ≡ image_told ar a r
+  pub climbing_deeper : left ≡ 0 → ◌≡◌ {A = Reply (Unit {0})} (refused 10 i) (image_told ar a r)
   climbing_deeper z =
       let S = preorder (image a r) in
       let k : i < length S = omega (arith, t.passed, spelt_long a leaf B S spelt) in
@@ -177,7 +175,7 @@ module _ {B : List ℕ} {leaf : ℕ} {W : List ℕ} {top left i : ℕ} (t : Clim
       (row_none ar (entries W top) i (get_or S i 0) (drop (suc i) S) (omega (arith, s.many, spelt_low a leaf B S i spelt k)))
 
   -- Where all bytes are passed and a level is left, the image is given.
-  pub climbing_fit : (left ≡ 0 → ⊥) → length B ≤ i → levels_told levels.Fit ≡ image_told ar a r
+  pub climbing_fit : (left ≡ 0 → ⊥) → length B ≤ i → ◌≡◌ {A = Reply (Unit {0})} (given tt) (image_told ar a r)
   climbing_fit z k =
       let S = preorder (image a r) in
       let j : left ≡ suc (left - 1) = omega arith in

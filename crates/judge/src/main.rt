@@ -2,17 +2,15 @@
 // and the place.
 #![tactic(auto)]
 
-use console::Input;
 use output::Streams;
-use verdict::Judgement;
 
 fn answer(to: Streams, text: &[u8]) {
     match fadurinko::judge(text) {
-        Judgement::Earliest => {
+        Ok(()) => {
             output::print(to, b"earliest\n");
         }
-        Judgement::Late(no) => {
-            console::print_no(to, &[no.number as u64, no.place as u64]);
+        Err(no) => {
+            console::print_no(to, &[u64::from(no.number), no.place as u64]);
         }
     }
 }
@@ -24,7 +22,7 @@ fn main(rt: HostRuntime) {
     };
     // One byte more than a text may have, so that a longer one is seen to be too long.
     let mut text = [0u8; layout::TEXT + 1];
-    let Input::Bytes(n) = console::read_text(
+    let Some(n) = console::read_text(
         &rt,
         rt.stdin(),
         to,

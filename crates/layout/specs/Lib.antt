@@ -2,3 +2,4 @@
 pub mod Layout
 pub mod Leaves
 pub mod Kids
+pub mod Lent

@@ -2,9 +2,10 @@
 ghost use Rattle.std.specs.Prelude.{◌≡◌, List, ℕ, ◌<◌, ◌≤◌, length, get_or};
 ghost use Rattle.text.specs.Limits.{symbols_most, states_most, rows_most};
 ghost use Rattle.machine.specs.Machine.{Table};
-ghost use Rattle.layout.specs.Layout.{Opened, Meant, MeantBy};
+ghost use Rattle.layout.specs.Layout.{Opened, MeantBy};
+ghost use Rattle.layout.specs.Lent.{Means};
 
-use crate::{RULES, STATES, SYMBOLS, byte, number, stretch, wide};
+use crate::{OpenTable, RULES, STATES, SYMBOLS, byte, number, stretch};
 
 // A count, at most `most`: an opened table has no more.
 fn at_most(x: u64, most: usize) -> usize
@@ -54,19 +55,19 @@ pub fn rules(numbers: &[u64]) -> usize
 }
 
 // The word before the initial state.
-pub fn word_before<'a>(frames: &'a [u8], numbers: &[u64]) -> &'a [u8]
+pub fn word_before<'a>(table: &OpenTable<'a>) -> &'a [u8]
     ensures result_len_bound { length result.now < 256 }
-    ensures meant { Meant frames.now numbers.now (λ M. result.now ≡ M.before) }
+    ensures meant { Means table.now (λ M. result.now ≡ M.before) }
 {
-    stretch(frames, place(numbers, 4))
+    stretch(table.frames, place(table.numbers, 4))
 }
 
 // The word after it.
-pub fn word_after<'a>(frames: &'a [u8], numbers: &[u64]) -> &'a [u8]
+pub fn word_after<'a>(table: &OpenTable<'a>) -> &'a [u8]
     ensures result_len_bound { length result.now < 256 }
-    ensures meant { Meant frames.now numbers.now (λ M. result.now ≡ M.after) }
+    ensures meant { Means table.now (λ M. result.now ≡ M.after) }
 {
-    stretch(frames, place(numbers, 5))
+    stretch(table.frames, place(table.numbers, 5))
 }
 
 // The arity of symbol f.
@@ -75,5 +76,5 @@ pub fn arity(frames: &[u8], f: usize) -> usize
     ensures upper_bound { result < 256 }
     ensures by_index { (I : List ℕ) (M : Table) → Opened frames.now I M → f < length M.arities → result ≡ get_or M.arities f 0 }
 {
-    wide(byte(frames, 2 * f + 1))
+    usize::from(byte(frames, 2 * f + 1))
 }

@@ -10,13 +10,20 @@ pub use counts::{arity, rules, start, states, symbols, word_after, word_before};
 
 mod counts;
 
+// An opened table as it is lent: its bytes, which are its frames and what is behind them, and its numbers.
+#[derive(Clone, Copy)]
+pub struct OpenTable<'a> {
+    pub frames: &'a [u8],
+    pub numbers: &'a [u64],
+}
+
 // How many bytes and how many numbers a caller lends for an opened table. The bytes behind the
 // longest table's frames let a word be copied in pieces of 32.
 pub const FRAMES: usize = 16448;
 
 pub const NUMBERS: usize = 4688;
 
-// The limits of document 01, named once: a table text's bytes, its symbols, their arity, its states,
+// The limits of the specification, named once: a table text's bytes, its symbols, their arity, its states,
 // its rules, a word's letters; a tree's bytes and its levels.
 pub const TEXT: usize = 32768;
 
@@ -33,12 +40,6 @@ pub const LETTERS: usize = 32;
 pub const TREE: usize = 32768;
 
 pub const LEVELS: usize = 64;
-
-pub fn wide(x: u8) -> usize
-    ensures { (result ≡ x) × (result < 256) }
-{
-    x as usize
-}
 
 // The byte at `at`, and 0 past the end: a child's state, a word's length, a symbol's arity.
 pub fn byte(frames: &[u8], at: usize) -> u8
@@ -58,7 +59,7 @@ pub fn number(numbers: &[u64], at: usize) -> u64
 pub fn stretch(frames: &[u8], at: usize) -> &[u8]
     ensures { (result.now ≡ word_at frames.now at) × (length result.now < 256) }
 {
-    let n = wide(byte(frames, at));
+    let n = usize::from(byte(frames, at));
     if at < frames.len() {
         let from = at + 1;
         if n <= frames.len() - from {
@@ -76,5 +77,5 @@ pub fn behind(frames: &[u8], at: usize) -> usize
     requires { at < 65536 }
     ensures { (result ≡ behind_at frames.now at) × (result ≤ at + 256) }
 {
-    at + 1 + wide(byte(frames, at))
+    at + 1 + usize::from(byte(frames, at))
 }

@@ -18,7 +18,7 @@ use Rattle.text.proofs.Digits.{digit_inv, digit_digit_of, digit_of_feed, length_
 use Rattle.text.proofs.Lines.{hex_no_feed, lines_line, line_inv, behind_inv}
 use Rattle.lines.specs.Scan.{Scanned, whole, bad, with_byte, either, scan, LinePut, FrontKept, LineTaken}
 use Rattle.lines.specs.declared.Line.{Line}
-use Rattle.lines.specs.declared.Line.TheVariants.{Whole, Bad}
+use Rattle.std.specs.Prelude.{Option as Maybe, Some, None}
 
 -- ---- a scanned line is the digits of its bytes
 
@@ -156,22 +156,20 @@ read_bad s p t n e = go (lines_of t) refl
 -- ---- from the answer to what is scanned
 
 -- A whole line is scanned, and its bytes are put.
-pub record IsWhole (T : List ℕ) (s : Scanned) (at used n then : ℕ) (F F' : List ℕ) : Type 0 where
+pub record IsWhole (T : List ℕ) (s : Scanned) (at used : ℕ) (l : Line) (F F' : List ℕ) : Type 0 where
   pub bytes : List ℕ
   pub left : List ℕ
   pub scanned : s ≡ whole bytes left
-  pub put : LinePut T bytes left at used n then F F'
+  pub put : LinePut T bytes left at used l.bytes l.next F F'
 
--- An answer with a number of bytes says so.
-pub whole_taken : (T : List ℕ) (s : Scanned) (at used n then : ℕ) (F F' : List ℕ) (r : Line) → r ≡ Whole n then → LineTaken T s at used F F' r
-    → IsWhole T s at used n then F F'
-whole_taken T (whole bs t) at used n then F F' r e h =
-    let p : LinePut T bs t at used n then F F' = rw e at h in
-    record { bytes = bs; left = t; scanned = refl; put = p }
-whole_taken T bad at used n then F F' r e h = absurd (let z : ⊥ = rw e at h in z)
+-- An answer with a line says so.
+pub whole_taken : (T : List ℕ) (s : Scanned) (at used : ℕ) (l : Line) (F F' : List ℕ) → LineTaken T s at used F F' (Some l)
+    → IsWhole T s at used l F F'
+whole_taken T (whole bs t) at used l F F' p = record { bytes = bs; left = t; scanned = refl; put = p }
+whole_taken T bad at used l F F' h = absurd h
 
--- The other answer says that the line is bad, and that the bytes before `used` are as they were.
-pub bad_taken : (T : List ℕ) (s : Scanned) (at used : ℕ) (F F' : List ℕ) (r : Line) → r ≡ Bad → LineTaken T s at used F F' r
+-- None says that the line is bad, and that the bytes before `used` are as they were.
+pub bad_taken : (T : List ℕ) (s : Scanned) (at used : ℕ) (F F' : List ℕ) (r : Maybe Line) → r ≡ None → LineTaken T s at used F F' r
     → (s ≡ bad) × FrontKept used F F'
 bad_taken T (whole bs t) at used F F' r e h = absurd (let z : ⊥ = rw e at h in z)
 bad_taken T bad at used F F' r e h =

@@ -13,7 +13,7 @@ use lib.Seq.{drop-cons, set_at, length-take-le, take_at, append_snoc}
 use Rattle.text.specs.Lines.{digit}
 use Rattle.lines.specs.Scan.{Scanned, whole, bad, with_byte, scan, LinePut, FrontKept, EndedAt, LineTaken}
 use Rattle.lines.specs.declared.Line.{Line}
-use Rattle.lines.specs.declared.Line.TheVariants.{Whole, Bad}
+use Rattle.std.specs.Prelude.{Option as Maybe, Some, None}
 use Rattle.lines.proofs.Values.{digit_feed}
 
 -- ---- one step of the scan, at place i of a text
@@ -86,13 +86,17 @@ scan_second T i v h e f = scan_pair T i h (digit_feed (get_or T i 0) v e) ∙ rw
 
 -- The answer to a whole line.
 taken_whole : (T : List ℕ) (s : Scanned) (bs t : List ℕ) (at used n then : ℕ) (F F' : List ℕ) → s ≡ whole bs t
-    → LinePut T bs t at used n then F F' → LineTaken T s at used F F' (Whole n then)
+    → LinePut T bs t at used n then F F' → LineTaken T s at used F F' (Some (record { bytes = n; next = then }))
 taken_whole T s bs t at used n then F F' e p = rw e p
 
 -- The answer to a bad line.
 taken_bad : (T : List ℕ) (s : Scanned) (at used : ℕ) (F F' : List ℕ) → s ≡ bad → FrontKept used F F'
-    → LineTaken T s at used F F' Bad
+    → LineTaken T s at used F F' None
 taken_bad T s at used F F' e k = rw e k
+
+-- A line is its two numbers.
+line_is : (l : Line) (n i : ℕ) → l.bytes ≡ n → l.next ≡ i → l ≡ record { bytes = n; next = i }
+line_is l n i e f = rw (← e, ← f) refl
 
 -- ---- bytes F that were F₀ and have acc from `used` on
 
@@ -147,7 +151,7 @@ module _ {T F₀ F : List ℕ} {at used i n : ℕ} (room : 2 * used ≤ at) (tex
   }
 
   -- The line has ended.
-  pub decoded_whole : i < length T → get_or T i 0 ≡ 10 → LineTaken T (scan (drop at T)) at used F₀ F (Whole n (i + 1))
+  pub decoded_whole : i < length T → get_or T i 0 ≡ 10 → LineTaken T (scan (drop at T)) at used F₀ F (Some (record { bytes = n; next = i + 1 }))
   decoded_whole h e =
       let s : scan (drop at T) ≡ whole d.acc (drop (i + 1) T) =
       d.rest ∙ ap (prepended d.acc) (scan_feed T i h e) ∙ ap (λ x. whole x (drop (i + 1) T)) (append-nil d.acc) in
@@ -155,14 +159,16 @@ module _ {T F₀ F : List ℕ} {at used i n : ℕ} (room : 2 * used ≤ at) (tex
       (record { bytes = sym d.long; next = omega (arith, d.place); inside = omega arith; rest = refl; put = d.bytes })
 
   -- The line is bad from i on.
-  pub decoded_bad : scan (drop i T) ≡ bad → LineTaken T (scan (drop at T)) at used F₀ F Bad
+  pub decoded_bad : scan (drop i T) ≡ bad → LineTaken T (scan (drop at T)) at used F₀ F None
   decoded_bad e = taken_bad T (scan (drop at T)) at used F₀ F (d.rest ∙ ap (prepended d.acc) e) decoded_kept
 
   -- The line has ended, or it is bad from i on.
-  pub decoded_ended : ((i < length T → get_or T i 0 ≡ 10 → ⊥) → scan (drop i T) ≡ bad) → (r : Line) → EndedAt T i n r
+  pub decoded_ended : ((i < length T → get_or T i 0 ≡ 10 → ⊥) → scan (drop i T) ≡ bad) → (r : Maybe Line) → EndedAt T i n r
       → LineTaken T (scan (drop at T)) at used F₀ F r
-  decoded_ended other (Whole m next) (e, f, h, g) = rw (e, f) (decoded_whole h g)
-  decoded_ended other Bad g = decoded_bad (other g)
+  decoded_ended other (Some l) (e, f, h, g) =
+      let s : l ≡ record { bytes = n; next = i + 1 } = line_is l n (i + 1) e f in
+      rw s (decoded_whole h g)
+  decoded_ended other None g = decoded_bad (other g)
 
   -- One byte more, and the place behind its digits.
   pub decoded_more : (j h l : ℕ) → j ≡ i + 2 → i + 1 < length T → digit (get_or T i 0) ≡ some h

@@ -54,20 +54,20 @@ pub right_valued : (vs : List ℕ) → length vs ≡ 256 → T (every right 0 vs
 unfolding right
 right_valued vs e t = record { value = λ c h. eqb→eq (get_or vs c 0) (value_or16 (digit c)) (every_at right vs t c (omega arith)) }
 
--- An entry below 16 is a digit's.
-pub value_digit : (vs : List ℕ) (c : ℕ) → Valued vs → c < 256 → get_or vs c 0 ≤ 15 → digit c ≡ some (get_or vs c 0)
-value_digit vs c t h k = go (digit c) (t.value c h)
+-- An entry below 16 is a digit's: the one of character c.
+pub value_digit : (vs : List ℕ) (i c : ℕ) → Valued vs → i ≡ c → c < 256 → get_or vs i 0 ≤ 15 → digit c ≡ some (get_or vs i 0)
+value_digit vs i c t e h k = rw (← e) (go (digit i) (t.value i (omega arith)))
   where
-    go : (o : Option ℕ) → get_or vs c 0 ≡ value_or16 o → o ≡ some (get_or vs c 0)
+    go : (o : Option ℕ) → get_or vs i 0 ≡ value_or16 o → o ≡ some (get_or vs i 0)
     go (some w) e = ap some (sym e)
     go none e = absurd (omega arith)
 
 -- Any other is no digit's.
-pub value_none : (vs : List ℕ) (c : ℕ) → Valued vs → c < 256 → 15 < get_or vs c 0 → digit c ≡ none
-value_none vs c t h k = go (digit c) refl (t.value c h)
+pub value_none : (vs : List ℕ) (i c : ℕ) → Valued vs → i ≡ c → c < 256 → 15 < get_or vs i 0 → digit c ≡ none
+value_none vs i c t e h k = rw (← e) (go (digit i) refl (t.value i (omega arith)))
   where
-    go : (o : Option ℕ) → digit c ≡ o → get_or vs c 0 ≡ value_or16 o → o ≡ none
-    go (some w) d e = absurd (omega (arith, (digit_inv c w d).0))
+    go : (o : Option ℕ) → digit i ≡ o → get_or vs i 0 ≡ value_or16 o → o ≡ none
+    go (some w) d e = absurd (omega (arith, (digit_inv i w d).0))
     go none d e = refl
 
 -- A 0a is no digit.

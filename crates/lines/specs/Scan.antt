@@ -1,9 +1,8 @@
 -- One line at the front of a text, as the code takes it: two digits at a time. Definitions only.
-use Rattle.std.specs.Prelude.{◌≡◌, Bool, true, false, List, [], ◌∷◌, ◌++◌, ℕ, ◌+◌, ◌*◌, ◌<◌, ◌≤◌, eqb, length, get_or, take, drop}
+use Rattle.std.specs.Prelude.{◌≡◌, Option as Maybe, Some, None, Bool, true, false, List, [], ◌∷◌, ◌++◌, ℕ, ◌+◌, ◌*◌, ◌<◌, ◌≤◌, eqb, length, get_or, take, drop}
 use Rattle.std.proofs.Math.Option.{Option, none, some}
 use Rattle.text.specs.Lines.{digit}
 use Rattle.lines.specs.declared.Line.{Line}
-use Rattle.lines.specs.declared.Line.TheVariants.{Whole, Bad}
 
 -- A line's bytes and the text behind its 0a, or that it is no line of bytes.
 pub data Scanned : Type 0 where
@@ -51,13 +50,13 @@ pub record FrontKept (used : ℕ) (F F' : List ℕ) : Type 0 where
   pub front : take used F' ≡ take used F
 
 -- Whether the line ends at i: its 0a stands there, and the line has n bytes; or it does not.
-abbrev pub EndedAt : List ℕ → ℕ → ℕ → Line → Type 0
-EndedAt T i n (Whole m next) = (m ≡ n) × (next ≡ i + 1) × (i < length T) × (get_or T i 0 ≡ 10)
-EndedAt T i n Bad = i < length T → get_or T i 0 ≡ 10 → ⊥
+abbrev pub EndedAt : List ℕ → ℕ → ℕ → Maybe Line → Type 0
+EndedAt T i n (Some l) = (l.bytes ≡ n) × (l.next ≡ i + 1) × (i < length T) × (get_or T i 0 ≡ 10)
+EndedAt T i n None = i < length T → get_or T i 0 ≡ 10 → ⊥
 
 -- What taking a line answers, and what it does to the bytes.
-abbrev pub LineTaken : List ℕ → Scanned → ℕ → ℕ → List ℕ → List ℕ → Line → Type 0
-LineTaken T (whole bs t) at used F F' (Whole n next) = LinePut T bs t at used n next F F'
-LineTaken T (whole bs t) at used F F' Bad = ⊥
-LineTaken T bad at used F F' (Whole n next) = ⊥
-LineTaken T bad at used F F' Bad = FrontKept used F F'
+abbrev pub LineTaken : List ℕ → Scanned → ℕ → ℕ → List ℕ → List ℕ → Maybe Line → Type 0
+LineTaken T (whole bs t) at used F F' (Some l) = LinePut T bs t at used l.bytes l.next F F'
+LineTaken T (whole bs t) at used F F' None = ⊥
+LineTaken T bad at used F F' (Some l) = ⊥
+LineTaken T bad at used F F' None = FrontKept used F F'

@@ -5,11 +5,11 @@ ghost use Rattle.std.specs.Prelude.{◌≡◌, ◌+◌, ◌*◌, ◌<◌, ◌≤
 ghost use Rattle.text.specs.Limits.{text_most};
 ghost use Rattle.lines.specs.Scan.{scan, Valued, EndedAt, LineTaken};
 
-// A line's number of bytes and where the next line starts; or a line that is no bytes.
+// A line's number of bytes and where the next line starts.
 #[derive(Clone, Copy)]
-pub enum Line {
-    Whole { bytes: usize, next: usize },
-    Bad,
+pub struct Line {
+    pub bytes: usize,
+    pub next: usize,
 }
 
 // The value of each lowercase hexadecimal digit, 16 for any other character: made once a line,
@@ -18,61 +18,46 @@ fn digit_values() -> [u8; 256]
     ensures { Valued result }
 {
     let mut values = [16u8; 256];
-    values[48] = 0;
-    values[49] = 1;
-    values[50] = 2;
-    values[51] = 3;
-    values[52] = 4;
-    values[53] = 5;
-    values[54] = 6;
-    values[55] = 7;
-    values[56] = 8;
-    values[57] = 9;
-    values[97] = 10;
-    values[98] = 11;
-    values[99] = 12;
-    values[100] = 13;
-    values[101] = 14;
-    values[102] = 15;
+    values[48..58].copy_from_slice(&[0, 1, 2, 3, 4, 5, 6, 7, 8, 9]);
+    values[97..103].copy_from_slice(&[10, 11, 12, 13, 14, 15]);
     values
 }
 
 // The line that ends at i with n bytes, where its 0a stands there.
-fn ended(text: &[u8], i: usize, n: usize) -> Line
+fn ended(text: &[u8], i: usize, n: usize) -> Option<Line>
     ensures { EndedAt text.now i n result }
 {
-    if i < text.len() {
-        if text[i] == 10 {
-            return Line::Whole {
-                bytes: n,
-                next: i + 1,
-            };
-        }
+    if i < text.len() && text[i] == 10 {
+        Some(Line {
+            bytes: n,
+            next: i + 1,
+        })
+    } else {
+        None
     }
-    Line::Bad
 }
 
-// Decodes the line of text that starts at `at` into frames from `used` on.
-pub fn take_line(text: &[u8], at: usize, frames: &mut [u8], used: usize) -> Line
+// Decodes the line of text that starts at `at` into frames from `used` on; none for a line that is
+// no bytes.
+pub fn take_line(text: &[u8], at: usize, frames: &mut [u8], used: usize) -> Option<Line>
     requires at_in_bounds { (at ≤ length text.now) × (length text.now ≤ text_most) }
     requires used_bound { (2 * used ≤ at) × (16384 ≤ length frames.old) }
     ensures { LineTaken text.now (scan (drop at text.now)) at used frames.old frames.new result }
 {
     let values = digit_values();
     let pairs = (text.len() - at) / 2;
-    let mut n: usize = 0;
-    while n < pairs {
+    // Where a line ends is answered, so the pairs are counted and not taken by an iterator of chunks.
+    for n in 0..pairs {
         let i = at + 2 * n;
-        let h = values[text[i] as usize];
+        let h = values[usize::from(text[i])];
         if 15 < h {
             return ended(text, i, n);
         }
-        let l = values[text[i + 1] as usize];
+        let l = values[usize::from(text[i + 1])];
         if 15 < l {
-            return Line::Bad;
+            return None;
         }
         frames[used + n] = h * 16 + l;
-        n += 1;
     }
-    ended(text, at + 2 * n, n)
+    ended(text, at + 2 * pairs, pairs)
 }

@@ -9,7 +9,7 @@ use native.Mathlib.Omega.{arith}
 use lib.ListN.{length, take, length-append}
 use lib.Seq.{take_all}
 use Rattle.words.specs.declared.No.{No}
-use Rattle.words.specs.Reply.{given, refusal, ◌then◌}
+use Rattle.words.specs.Reply.{Reply, given, refusal, ◌then◌}
 use Rattle.words.proofs.Replies.{given_injective, given_refused}
 use Rattle.words.specs.Told.{Told}
 use Rattle.words.proofs.Told.{told_map}
@@ -22,12 +22,9 @@ use Rattle.records.specs.Symbols.{last_symbol}
 use Rattle.layout.specs.Layout.{Meant}
 use Rattle.hexline.specs.SoFar.{LineHeld, State, whole, waits, strange, TreeBytes, WholeBytes, any_of}
 use Rattle.hexline.specs.declared.SoFar.{SoFar}
+use Rattle.hexline.specs.declared.End.{End}
+use Rattle.hexline.specs.declared.End.TheVariants as end
 use Rattle.hexline.proofs.Laws.{bytes_append, bytes_byte, held_bytes}
-use Rattle.record_symbols.specs.LastTold.{last_told}
-use Rattle.record_symbols.specs.declared.LastSymbol.{LastSymbol}
-use Rattle.record_symbols.specs.declared.LastSymbol.TheVariants as last
-use Rattle.stream_check.specs.declared.OpenElements.{OpenElements}
-use Rattle.stream_check.specs.declared.OpenElements.TheVariants as elements
 use Rattle.long_line.specs.Held.{count_most, MarksTold, PastTold, Hopeless, LongHeld, SomeBytes, AllOrLong, long_reply}
 use Rattle.long_line.specs.declared.Past.{Past}
 use Rattle.long_line.specs.declared.LongLine.{LongLine}
@@ -52,13 +49,13 @@ some_any [] ys h = absurd (omega arith)
 some_any (x ∷ xs) ys h = refl
 
 -- Nothing was held.
-pub past_none : (F I : List ℕ) → PastTold F I [] (record { bytes = 0; told = elements.Open 0 })
+pub past_none : (F I : List ℕ) → PastTold F I [] (record { bytes = 0; told = given 0 })
 unfolding marks_of marks_from
 past_none F I = record { many = refl; marks = λ M o a e. refl }
 
 -- The list has one last symbol.
-last_one : (ar : List ℕ) (r : LastSymbol) (a b : ℕ) → last_told r ≡ last_symbol ar → r ≡ last.Last b → last_symbol ar ≡ given a → b ≡ a
-last_one ar r a b e f g = given_injective b a (sym (ap last_told f) ∙ e ∙ g)
+last_one : (ar : List ℕ) (a b : ℕ) → ◌≡◌ {A = Reply ℕ} (given b) (last_symbol ar) → last_symbol ar ≡ given a → b ≡ a
+last_one ar a b e g = given_injective b a (e ∙ g)
 
 module _ {F I gone : List ℕ} (v : List ℕ) {p : Past} {m : ℕ} (t : PastTold F I gone p) (few : length gone + length v < count_most)
     (is : p.bytes + length v < count_most → m ≡ p.bytes + length v) where
@@ -67,28 +64,28 @@ module _ {F I gone : List ℕ} (v : List ℕ) {p : Past} {m : ℕ} (t : PastTold
   past_many = let e : p.bytes + length v < count_most = omega (arith, t.many) in omega (arith, is e, t.many, length-append gone v)
 
   -- They were looked through under the last symbol of a list for records.
-  pub past_looked : (r : LastSymbol) (b : ℕ) (e : OpenElements) → Meant F I (λ M. last_told r ≡ last_symbol M.arities) → r ≡ last.Last b
+  pub past_looked : (b : ℕ) (e : Reply ℕ) → Meant F I (λ M. ◌≡◌ {A = Reply ℕ} (given b) (last_symbol M.arities))
       → ((gone : List ℕ) → p.bytes ≡ length gone → length gone + length v < count_most → MarksTold b gone p.told → MarksTold b (gone ++ v) e)
       → PastTold F I (gone ++ v) (record { bytes = m; told = e })
-  past_looked r b e l i f = record {
+  past_looked b e l f = record {
     many = past_many;
     marks = λ M o a g.
-        let s = last_one M.arities r a b (l M o) i g in
+        let s = last_one M.arities a b (l M o) g in
         let c = subst (λ (x : ℕ). MarksTold x gone p.told) (sym s) (t.marks M o a g) in
         subst (λ (x : ℕ). MarksTold x (gone ++ v) e) s (f gone t.many few c);
   }
 
   -- The list is none for records.
-  pub past_unlooked : (r : LastSymbol) (x : No) (e : OpenElements) → Meant F I (λ M. last_told r ≡ last_symbol M.arities) → r ≡ last.Refused x
+  pub past_unlooked : (x : No) (e : Reply ℕ) → Meant F I (λ M. ◌≡◌ {A = Reply ℕ} (refusal x) (last_symbol M.arities))
       → PastTold F I (gone ++ v) (record { bytes = m; told = e })
-  past_unlooked r x e l i = record {
+  past_unlooked x e l = record {
     many = past_many;
-    marks = λ M o a g. absurd (given_refused a x.number x.place (sym g ∙ sym (l M o) ∙ ap last_told i));
+    marks = λ M o a g. absurd (given_refused a x.number x.place (sym g ∙ sym (l M o)));
   }
 
 -- A line of which nothing has come.
 pub long_none : (F I T : List ℕ) (k : ℕ) {s : SoFar} → 0 < k → LineHeld [] T s
-    → LongHeld F I k [] T (record { past = record { bytes = 0; told = elements.Open 0 }; line = s })
+    → LongHeld F I k [] T (record { past = record { bytes = 0; told = given 0 }; line = s })
 unfolding bytes_of
 long_none F I T k h l = record {
   front = [];
@@ -240,14 +237,20 @@ list_told ar bs x e = rw e
 
 -- ---- places for more bytes
 
+-- What is kept of an end, and whether anything came behind the bytes before it.
+abbrev pub EndKept : End → Bool → Type 0
+EndKept end.Whole y = y ≡ false
+EndKept (end.Digit d) y = y ≡ true
+EndKept end.Strange y = ⊥
+
 module _ {F I cs T : List ℕ} {l : LongLine} (h : LongHeld F I (2 * length T) cs T l) where
   -- A line with another character in it needs no places.
-  pub bad_places : l.line.bad ≡ true → LongHeld F I (2 * tree_most + 2) cs T l
+  pub bad_places : l.line.end ≡ end.Strange → LongHeld F I (2 * tree_most + 2) cs T l
   bad_places e = long_within h (go h.held.state)
     where
       go : State h.rest T l.line → Hopeless h.rest ⊎ (length h.rest < 2 * tree_most + 2)
-      go (whole bs b f g t) = absurd (let z : ◌≡◌ {A = ℕ} 0 1 = cc in omega arith)
-      go (waits front bs c b f g i j t) = absurd (let z : ◌≡◌ {A = ℕ} 0 1 = cc in omega arith)
+      go (whole bs f g t) = absurd (let z : ◌≡◌ {A = ℕ} 0 1 = cc in omega arith)
+      go (waits front bs c d f m g i j t) = absurd (let z : ◌≡◌ {A = ℕ} 0 1 = cc in omega arith)
       go (strange b n) = inl n
 
   -- A line with as few bytes as a tree has places enough.
@@ -257,27 +260,29 @@ module _ {F I cs T : List ℕ} {l : LongLine} (h : LongHeld F I (2 * length T) c
       go : Hopeless h.rest ⊎ (length h.rest < 2 * length T) → State h.rest T l.line
           → Hopeless h.rest ⊎ (length h.rest < 2 * tree_most + 2)
       go (inl n) s = inl n
-      go (inr n) (whole bs b f g t) = inr (omega (arith, bytes_length h.rest bs g, t.many))
-      go (inr n) (waits front bs c b f g i j t) = inr (omega (arith, bytes_length front bs j, ap length g, length-append front (c ∷ []), t.many))
+      go (inr n) (whole bs f g t) = inr (omega (arith, bytes_length h.rest bs g, t.many))
+      go (inr n) (waits front bs c d f u g i j t) = inr (omega (arith, bytes_length front bs j, ap length g, length-append front (c ∷ []), t.many))
       go (inr n) (strange b s) = inl s
 
   -- Any other line: its bytes were looked through, and at most a digit is left.
-  pub new_places : (v : List ℕ) (p : Past) (y : Bool) → length cs < count_most → l.line.bad ≡ false → tree_most < l.line.bytes
+  pub new_places : (v : List ℕ) (p : Past) (y : Bool) → length cs < count_most → EndKept l.line.end y → tree_most < l.line.bytes
       → v ≡ take l.line.bytes T
       → ((gone : List ℕ) → length gone + length v < count_most → PastTold F I gone l.past → PastTold F I (gone ++ v) p)
-      → (l.line.half ≡ 16 → y ≡ false) → (l.line.half < 16 → y ≡ true)
-      → LongHeld F I (2 * tree_most + 2) cs T (record { past = p; line = record { bytes = 0; half = l.line.half; bad = false; any = y } })
+      → LongHeld F I (2 * tree_most + 2) cs T (record { past = p; line = record { bytes = 0; end = l.line.end; any = y } })
   unfolding bytes_of digit
-  new_places v p y n b m d f no_digit digit-waits = go h.short h.held.state
+  new_places v p y n b m d f = go h.short h.held.state
     where
+      kept : {e : End} → l.line.end ≡ e → EndKept e y
+      kept i = subst (λ (e : End). EndKept e y) i b
+
       go : Hopeless h.rest ⊎ (length h.rest < 2 * length T) → State h.rest T l.line
-          → LongHeld F I (2 * tree_most + 2) cs T (record { past = p; line = record { bytes = 0; half = l.line.half; bad = false; any = y } })
-      go s (strange z t) = absurd (let q : ◌≡◌ {A = ℕ} 0 1 = cc in omega arith)
-      go (inl s) (whole bs z i g t) = absurd (none-ne-some bs (sym (s []) ∙ ap bytes_of (append-nil h.rest) ∙ g))
-      go (inl s) (waits front bs c z i g j q t) =
+          → LongHeld F I (2 * tree_most + 2) cs T (record { past = p; line = record { bytes = 0; end = l.line.end; any = y } })
+      go s (strange z t) = absurd (kept z)
+      go (inl s) (whole bs i g t) = absurd (none-ne-some bs (sym (s []) ∙ ap bytes_of (append-nil h.rest) ∙ g))
+      go (inl s) (waits front bs c x i z g j q t) =
           let more = ap (λ (x : List ℕ). x ++ 0x30 ∷ []) g ∙ append_assoc front (c ∷ []) (0x30 ∷ []) in
-          absurd (none-ne-some _ (sym (s (0x30 ∷ [])) ∙ ap bytes_of more ∙ bytes_byte front bs c 0x30 l.line.half 0 q j refl))
-      go (inr s) (whole bs z i g t) =
+          absurd (none-ne-some _ (sym (s (0x30 ∷ [])) ∙ ap bytes_of more ∙ bytes_byte front bs c 0x30 x 0 q j refl))
+      go (inr s) (whole bs i g t) =
           let few : length bs < length T = omega (arith, bytes_length h.rest bs g) in
           let fit = fit_held bs T l.line.bytes t few in
           let is : v ≡ bs = d ∙ fit.1 in
@@ -290,10 +295,10 @@ module _ {F I cs T : List ℕ} {l : LongLine} (h : LongHeld F I (2 * length T) c
             bytes = some_front ∙ ap (λ (x : List ℕ). some (h.gone ++ x)) (sym is);
             past = f h.gone (omega (arith, ap length is, bytes_length cs (h.gone ++ bs) some_front, length-append h.gone bs)) h.past;
             long = inr (omega (arith, ap length is, fit.0, length-append h.gone v));
-            held = record { any = no_digit i; state = whole [] refl i refl (none_held T) };
+            held = record { any = kept i; state = whole [] i refl (none_held T) };
             short = inr (omega arith);
           }
-      go (inr s) (waits front bs c z i g j q t) =
+      go (inr s) (waits front bs c x i z g j q t) =
           let few : length bs < length T = omega (arith, bytes_length front bs q, ap length g, length-append front (c ∷ [])) in
           let fit = fit_held bs T l.line.bytes t few in
           let is : v ≡ bs = d ∙ fit.1 in
@@ -317,6 +322,6 @@ module _ {F I cs T : List ℕ} {l : LongLine} (h : LongHeld F I (2 * length T) c
             bytes = some_front ∙ ap (λ (x : List ℕ). some (h.gone ++ x)) (sym is);
             past = f h.gone fewer h.past;
             long = inr (omega (arith, ap length is, fit.0, length-append h.gone v));
-            held = record { any = digit-waits i; state = waits [] [] c refl i refl j refl (none_held T) };
+            held = record { any = kept i; state = waits [] [] c x i z refl j refl (none_held T) };
             short = inr (omega arith);
           }

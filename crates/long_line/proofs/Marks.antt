@@ -20,8 +20,6 @@ use Rattle.records.specs.Calls.{spelled}
 use Rattle.records.proofs.Counter.{check_given, check_refused, stream_tree}
 use Rattle.records.proofs.Ranked.{tree_long}
 use Rattle.stream_check.specs.StreamTold.{marks_told}
-use Rattle.stream_check.specs.declared.OpenElements.{OpenElements}
-use Rattle.stream_check.specs.declared.OpenElements.TheVariants as elements
 use Rattle.stream_check.proofs.Steps.{step_most, ending_whole, ending_open}
 use Rattle.long_line.specs.Held.{MarksTold, long_reply}
 
@@ -57,23 +55,22 @@ marks_most (b ∷ bs) c a m p m' e =
     let i = then_given (step# c a m p b) (λ z. marks_from c a z (suc p) bs) m' e in
     omega (arith, step_most c a m p b i.0 i.1, marks_most bs c a i.0 (suc p) m' i.2)
 
-module _ (a : ℕ) (gone bytes : List ℕ) {told : OpenElements} (h : MarksTold a gone told) where
+module _ (a : ℕ) (gone bytes : List ℕ) {told : Reply ℕ} (h : MarksTold a gone told) where
   -- A refused front: so is the whole, with the same.
-  pub front_refused : {x : No} → told ≡ elements.Refused x → MarksTold a (gone ++ bytes) told
+  pub front_refused : {x : No} → told ≡ refusal x → MarksTold a (gone ++ bytes) (refusal x)
   front_refused {x} e =
-      ap (marks_told (ltb 0 (length (gone ++ bytes)))) e
-      ∙ ap (λ (o : Reply StreamMarks). o then λ m. marks_from close a m (length gone) bytes) (sym (ap (marks_told (ltb 0 (length gone))) e) ∙ h)
+      ap (λ (o : Reply StreamMarks). o then λ m. marks_from close a m (length gone) bytes) (sym (ap (marks_told (ltb 0 (length gone))) e) ∙ h)
       ∙ sym (marks_front close a gone bytes)
 
   -- As many elements are open as it has bytes, at most.
-  pub front_most : {n : ℕ} → told ≡ elements.Open n → n ≤ length gone
+  pub front_most : {n : ℕ} → told ≡ given n → n ≤ length gone
   unfolding marks_of
   front_most {n} e =
       let i = sym h ∙ ap (marks_told (ltb 0 (length gone))) e in
       omega (arith, marks_most gone close a (marks 0 false) 0 (marks n (ltb 0 (length gone))) i)
 
   -- What is told of the bytes behind it is told of the whole.
-  pub front_more : {n : ℕ} (r : OpenElements) (q : ℕ) → told ≡ elements.Open n → q ≡ length gone
+  pub front_more : {n : ℕ} (r : Reply ℕ) (q : ℕ) → told ≡ given n → q ≡ length gone
       → marks_told (ltb 0 (q + length bytes)) r ≡ marks_from close a (marks n (ltb 0 q)) q bytes → MarksTold a (gone ++ bytes) r
   front_more {n} r q e i f =
       ap (λ (k : ℕ). marks_told (ltb 0 k) r) (length-append gone bytes)
@@ -81,28 +78,24 @@ module _ (a : ℕ) (gone bytes : List ℕ) {told : OpenElements} (h : MarksTold 
       ∙ ap (λ (o : Reply StreamMarks). o then λ m. marks_from close a m (length gone) bytes) (sym (ap (marks_told (ltb 0 (length gone))) e) ∙ h)
       ∙ sym (marks_front close a gone bytes)
 
-module _ (a : ℕ) (s : List ℕ) {told : OpenElements} (h : MarksTold a s told) where
+module _ (a : ℕ) (s : List ℕ) where
   -- A refused stream.
-  pub long_refused : {x : No} → told ≡ elements.Refused x → long_reply a s ≡ refusal x
+  pub long_refused : {x : No} → MarksTold a s (refusal x) → long_reply a s ≡ refusal x
   unfolding check_stream
-  long_refused {x} e =
-      ap (λ (o : Reply StreamMarks). o then (λ m. ending# m.open_now m.begun (length s)) then λ u. refused 6 0)
-      (sym h ∙ ap (marks_told (ltb 0 (length s))) e)
+  long_refused h = ap (λ (o : Reply StreamMarks). o then (λ m. ending# m.open_now m.begun (length s)) then λ u. refused 6 0) (sym h)
 
   -- A stream that leaves so many elements open.
-  long_ended : {n : ℕ} → told ≡ elements.Open n → long_reply a s ≡ (ending# n (ltb 0 (length s)) (length s) then λ u. refused 6 0)
+  long_ended : {n : ℕ} → MarksTold a s (given n) → long_reply a s ≡ (ending# n (ltb 0 (length s)) (length s) then λ u. refused 6 0)
   unfolding check_stream
-  long_ended {n} e =
-      ap (λ (o : Reply StreamMarks). o then (λ m. ending# m.open_now m.begun (length s)) then λ u. refused 6 0)
-      (sym h ∙ ap (marks_told (ltb 0 (length s))) e)
+  long_ended h = ap (λ (o : Reply StreamMarks). o then (λ m. ending# m.open_now m.begun (length s)) then λ u. refused 6 0) (sym h)
 
   -- None: it is a record's, and so too long.
-  pub long_whole : {n : ℕ} → told ≡ elements.Open n → n ≡ 0 → 0 < length s → long_reply a s ≡ refused 6 0
-  long_whole {n} e z l = long_ended e ∙ ap (λ (o : Reply (Unit {0})). o then λ u. refused 6 0) (ending_whole n (length s) z l)
+  pub long_whole : {n : ℕ} → MarksTold a s (given n) → n ≡ 0 → 0 < length s → long_reply a s ≡ refused 6 0
+  long_whole {n} h z l = long_ended h ∙ ap (λ (o : Reply (Unit {0})). o then λ u. refused 6 0) (ending_whole n (length s) z l)
 
   -- Some: 22 at its length.
-  pub long_open : {n : ℕ} → told ≡ elements.Open n → 0 < n → long_reply a s ≡ refused 22 (length s)
-  long_open {n} e l = long_ended e ∙ ap (λ (o : Reply (Unit {0})). o then λ u. refused 6 0) (ending_open n (ltb 0 (length s)) (length s) l)
+  pub long_open : {n : ℕ} → MarksTold a s (given n) → 0 < n → long_reply a s ≡ refused 22 (length s)
+  long_open {n} h l = long_ended h ∙ ap (λ (o : Reply (Unit {0})). o then λ u. refused 6 0) (ending_open n (ltb 0 (length s)) (length s) l)
 
 -- The refusal of a stream, or 6.
 abbrev or_six : Reply (Unit {0}) → Reply (Unit {0})

@@ -10,7 +10,6 @@ use Rattle.records.specs.Symbols.{last_symbol}
 use Rattle.layout.specs.Layout.{Meant}
 use Rattle.hexline.specs.SoFar.{LineHeld}
 use Rattle.stream_check.specs.StreamTold.{marks_told}
-use Rattle.stream_check.specs.declared.OpenElements.{OpenElements}
 use Rattle.long_line.specs.declared.Past.{Past}
 use Rattle.long_line.specs.declared.LongLine.{LongLine}
 
@@ -19,7 +18,7 @@ abbrev pub count_most : ℕ
 count_most = 18446744073709551616
 
 -- What the bytes of a stream's front leave open, or their refusal, where labels are below a.
-abbrev pub MarksTold : ℕ → List ℕ → OpenElements → Type 0
+abbrev pub MarksTold : ℕ → List ℕ → Reply ℕ → Type 0
 MarksTold a gone e = marks_told (ltb 0 (length gone)) e ≡ marks_of close a gone
 
 -- What is told of bytes that are held no more: how many they are, and their marks for each table that F and I mean whose symbol list is

@@ -9,20 +9,19 @@ ghost use Rattle.words.specs.Told.{Told};
 ghost use Rattle.text.specs.Lines.{bytes_of};
 ghost use Rattle.trees.specs.Shape.{tree_most, read_tree};
 ghost use Rattle.records.specs.Calls.{spelled};
-ghost use Rattle.layout.specs.Layout.{Meant};
+ghost use Rattle.layout.specs.Lent.{Means};
 ghost use Rattle.hexline.specs.SoFar.{any_of};
 ghost use Rattle.long_line.specs.Held.{count_most, MarksTold, PastTold, LongHeld, SomeBytes, AllOrLong, long_reply};
 
-use hexline::SoFar;
-use record_symbols::LastSymbol;
-use stream_check::OpenElements;
+use hexline::{End, SoFar};
+use layout::OpenTable;
 use words::No;
 
 // Bytes that are held no more: how many, and what they leave open as the front of a stream, or its refusal.
 #[derive(Clone, Copy)]
 pub struct Past {
     pub bytes: usize,
-    pub told: OpenElements,
+    pub told: Result<usize, No>,
 }
 
 // A line so far: what is held of it no more, and what has come behind that.
@@ -38,97 +37,78 @@ pub fn start() -> LongLine
 {
     let past = Past {
         bytes: 0,
-        told: OpenElements::Open(0),
+        told: Ok(0),
     };
-    let line = hexline::start();
-    LongLine { past, line }
-}
-
-// The sum of two numbers, where that is a number of the machine.
-fn sum(a: usize, b: usize) -> usize
-    ensures { a + b < count_most → result ≡ a + b }
-{
-    if a <= usize::MAX - b {
-        a + b
-    } else {
-        usize::MAX
+    LongLine {
+        past,
+        line: hexline::start(),
     }
 }
 
 // What the front of a stream leaves open with some bytes more, the first of them at `place`; or the refusal.
-fn look_on(told: OpenElements, place: usize, bytes: &[u8], last: u8) -> OpenElements
+fn look_on(told: Result<usize, No>, place: usize, bytes: &[u8], last: u8) -> Result<usize, No>
     ensures { (gone : List ℕ) → place ≡ length gone → length gone + length bytes.now < count_most
         → MarksTold last gone told → MarksTold last (gone ++ bytes.now) result }
 {
-    let OpenElements::Open(elements) = told else {
-        return told;
-    };
-    if elements <= place {
-        if place <= usize::MAX - bytes.len() {
-            return stream_check::go_on(bytes, last, 255, elements, place);
-        }
+    let elements = told?;
+    if elements <= place && place <= usize::MAX - bytes.len() {
+        return stream_check::go_on(bytes, last, 255, elements, place);
     }
     told
 }
 
 // What is held no more, with some bytes more.
-fn past_with(past: Past, bytes: &[u8], frames: &[u8], numbers: &[u64]) -> Past
+fn past_with(past: Past, bytes: &[u8], table: &OpenTable<'_>) -> Past
     ensures { (gone : List ℕ) → length gone + length bytes.now < count_most
-        → PastTold frames.now numbers.now gone past
-        → PastTold frames.now numbers.now (gone ++ bytes.now) result }
+        → PastTold table.now.frames.now table.now.numbers.now gone past
+        → PastTold table.now.frames.now table.now.numbers.now (gone ++ bytes.now) result }
 {
-    let told = past.told;
-    let many = sum(past.bytes, bytes.len());
-    match record_symbols::last_symbol(frames, numbers) {
-        LastSymbol::Last(last) => {
-            let told = look_on(told, past.bytes, bytes, last);
-            Past { bytes: many, told }
-        }
-        LastSymbol::Refused(_) => Past { bytes: many, told },
+    let told = match record_symbols::last_symbol(table) {
+        Ok(last) => look_on(past.told, past.bytes, bytes, last),
+        Err(_) => past.told,
+    };
+    Past {
+        bytes: past.bytes.saturating_add(bytes.len()),
+        told,
     }
 }
 
 // The line with places for more bytes: where those that are held are more than a tree may have, they are looked through.
-pub fn with_places(line: LongLine, tree: &[u8], frames: &[u8], numbers: &[u64]) -> LongLine
+pub fn with_places(line: LongLine, tree: &[u8], table: &OpenTable<'_>) -> LongLine
     ensures { (cs : List ℕ) → length cs < count_most
-        → LongHeld frames.now numbers.now (2 * length tree.now) cs tree.now line
-        → LongHeld frames.now numbers.now (2 * tree_most + 2) cs tree.now result }
+        → LongHeld table.now.frames.now table.now.numbers.now (2 * length tree.now) cs tree.now line
+        → LongHeld table.now.frames.now table.now.numbers.now (2 * tree_most + 2) cs tree.now result }
 {
-    let held = line.line;
-    if held.bad {
-        return line;
-    }
-    if held.bytes <= layout::TREE {
-        return line;
-    }
-    let bytes = output::front(tree, held.bytes);
-    let past = line.past;
-    let past = past_with(past, bytes, frames, numbers);
-    let line = SoFar {
-        bytes: 0,
-        half: held.half,
-        bad: false,
-        any: held.half <= 15,
+    let SoFar { bytes, end, .. } = line.line;
+    let any = match end {
+        End::Whole => false,
+        End::Digit(_) => true,
+        End::Strange => return line,
     };
-    LongLine { past, line }
+    if bytes <= layout::TREE {
+        return line;
+    }
+    LongLine {
+        past: past_with(line.past, output::front(tree, bytes), table),
+        line: SoFar { bytes: 0, end, any },
+    }
 }
 
 // The line with what has come behind that which is held no more.
 pub fn with_rest(line: LongLine, rest: SoFar) -> LongLine
     ensures { result ≡ record { past = line.past; line = rest } }
 {
-    let past = line.past;
-    LongLine { past, line: rest }
+    LongLine {
+        past: line.past,
+        line: rest,
+    }
 }
 
 // Whether anything has come.
 pub fn is_begun(line: LongLine) -> bool
     ensures { (F I cs T : List ℕ) (k : ℕ) → LongHeld F I k cs T line → result ≡ any_of cs }
 {
-    if 0 < line.past.bytes {
-        return true;
-    }
-    line.line.any
+    is_long(line) || line.line.any
 }
 
 // Whether the line is whole bytes in lowercase hexadecimal.
@@ -150,7 +130,7 @@ pub fn held<'a>(line: LongLine, tree: &'a [u8]) -> &'a [u8]
     ensures { (F I cs bs : List ℕ) → tree_most < length tree.now → bytes_of cs ≡ some bs
         → LongHeld F I (2 * length tree.now) cs tree.now line → AllOrLong bs result.now line.past.bytes }
 {
-    if 0 < line.past.bytes {
+    if is_long(line) {
         return tree;
     }
     output::front(tree, line.line.bytes)
@@ -162,34 +142,30 @@ fn refusal_under(past: Past, bytes: &[u8], last: u8) -> No
         → length gone + length bytes.now < count_most → MarksTold last gone past.told
         → long_reply last (gone ++ bytes.now) ≡ Reply·refusal result }
 {
-    let told = past.told;
-    match look_on(told, past.bytes, bytes, last) {
-        OpenElements::Refused(no) => no,
-        OpenElements::Open(elements) => {
-            if elements == 0 {
-                return No {
-                    number: 6,
-                    place: 0,
-                };
-            }
-            let place = sum(past.bytes, bytes.len());
-            No { number: 22, place }
-        }
+    match look_on(past.told, past.bytes, bytes, last) {
+        Err(no) => no,
+        Ok(0) => No {
+            number: 6,
+            place: 0,
+        },
+        Ok(_) => No {
+            number: 22,
+            place: past.bytes.saturating_add(bytes.len()),
+        },
     }
 }
 
 // The refusal of a line as a record's stream under an opened table, where it is long: 20, then the stream's own, then 6.
-pub fn refusal(line: LongLine, tree: &[u8], frames: &[u8], numbers: &[u64]) -> No
+pub fn refusal(line: LongLine, tree: &[u8], table: &OpenTable<'_>) -> No
     ensures { (cs bs : List ℕ) → length cs < count_most → bytes_of cs ≡ some bs → 0 < line.past.bytes
-        → LongHeld frames.now numbers.now (2 * length tree.now) cs tree.now line
-        → Meant frames.now numbers.now (λ M. (spelled M.arities bs then read_tree M.arities) ≡ Reply·refusal result) }
+        → LongHeld table.now.frames.now table.now.numbers.now (2 * length tree.now) cs tree.now line
+        → Means table.now (λ M. (spelled M.arities bs then read_tree M.arities) ≡ Reply·refusal result) }
 {
-    match record_symbols::last_symbol(frames, numbers) {
-        LastSymbol::Last(last) => {
+    match record_symbols::last_symbol(table) {
+        Ok(last) => {
             let bytes = output::front(tree, line.line.bytes);
-            let past = line.past;
-            refusal_under(past, bytes, last)
+            refusal_under(line.past, bytes, last)
         }
-        LastSymbol::Refused(no) => no,
+        Err(no) => no,
     }
 }

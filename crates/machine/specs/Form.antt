@@ -1,4 +1,4 @@
--- The form of a table (document 01, "The form"). A test for sameness of states is its argument. Definitions only.
+-- The form of a table (the specification, "The form"). A test for sameness of states is its argument. Definitions only.
 use Rattle.std.specs.Prelude.{◌≡◌, Bool, true, false, List, [], ◌∷◌, ◌++◌, map, ◌↔◌, ℕ, zero, suc, ◌<◌, eqb, ltb, length, get_or}
 use Rattle.machine.specs.Machine.{Row, Table}
 use Rattle.machine.specs.Same.{Same}

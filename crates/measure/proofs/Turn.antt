@@ -110,16 +110,16 @@ module _ {I S P W : List ℕ} {top v sum at : ℕ} (t : Measuring I S P W top v 
   pub measuring_early : length S ≤ at → 0 < top → Wordless M S M.start
   measuring_early l h = wordless (λ w. owing_early (some_owing h) l w)
 
--- What a turn does with what is kept, x, for the number v: the plan's number y, the sum, the stack W' with so many places more, and what comes next.
-pub record Turned (I W W' : List ℕ) (x v top y sum sum' k next : ℕ) : Type 0 where
+-- What a turn does with what is kept, x, for the number v: the plan's number y, the sum, the stack W' with its places, and what comes next.
+pub record Turned (I W W' : List ℕ) (x v top y sum sum' top' next : ℕ) : Type 0 where
   pub planned : (F : List ℕ) (M : Table) (q f : ℕ) → Opened F I M → (t : Tells M q f x) → Names F y t.rule
   pub letters : ℕ
   pub few : letters < 256
   pub written : ToldBy x letters rule_letters
   pub counted : sum' ≡ sum + letters
   pub made : TurnMade x v top W W' next
-  pub kids_few : k < 8
-  pub kids : ToldBy x k (λ r. length r.rest)
+  pub kids_few : top' < top + 7
+  pub kids : ToldBy x top' (λ r. top + length r.rest - 1)
 
 -- What is kept for the number v and the symbol f, in every table that the lent numbers mean, if v has a state of it.
 abbrev pub KeptAt : List ℕ → ℕ → ℕ → ℕ → Type 0
@@ -127,11 +127,11 @@ KeptAt I v f x = MeantBy I (λ M. v % states_most < M.states → Kept M (v % sta
 
 module _ {I S P W W' : List ℕ} {top v sum at : ℕ} (t : Measuring I S P W top v sum at) where
   -- What waits after a turn decides the whole and is owed trees by it, in every table that the lent numbers mean.
-  turned : {x y sum' k next : ℕ} (top' : ℕ) → at < length S → Usual (get_or S at 0) v top
-      → KeptAt I v (get_or S at 0) x → (x ≡ 0 → ⊥) → Turned I W W' x v top y sum sum' k next → top' ≡ top + k - 1
+  turned : {x y sum' top' next : ℕ} → at < length S → Usual (get_or S at 0) v top
+      → KeptAt I v (get_or S at 0) x → (x ≡ 0 → ⊥) → Turned I W W' x v top y sum sum' top' next
       → (F : List ℕ) (M : Table) → Opened F I M
       → (let vs = waits W' top' next in WholeFrom F S (set P at y) M M.start vs (suc at) sum' × Owing S M M.start vs (suc at))
-  turned {x} {y} {sum'} {k} {next} top' l n kept nz d e F M o =
+  turned {x} {y} {sum'} {top'} {next} l n kept nz d F M o =
       let p = v % states_most in
       let f = get_or S at 0 in
       let r : Tells M p f x = (kept F M o (measuring_state t F M o n.waits)).some nz in
@@ -146,13 +146,13 @@ module _ {I S P W W' : List ℕ} {top v sum at : ℕ} (t : Measuring I S P W top
       )
 
   -- One turn: the number that comes next meets a symbol for which a rule is kept.
-  pub measuring_next : {x y sum' k next : ℕ} (top' : ℕ) → at < length S → Usual (get_or S at 0) v top
-      → KeptAt I v (get_or S at 0) x → (x ≡ 0 → ⊥) → Turned I W W' x v top y sum sum' k next → top' ≡ top + k - 1
+  pub measuring_next : {x y sum' top' next : ℕ} → at < length S → Usual (get_or S at 0) v top
+      → KeptAt I v (get_or S at 0) x → (x ≡ 0 → ⊥) → Turned I W W' x v top y sum sum' top' next
       → Measuring I S (set P at y) W' top' next sum' (at + 1)
-  measuring_next {x} {y} {sum'} {k} {next} top' l n kept nz d e =
+  measuring_next {x} {y} {sum'} {top'} {next} l n kept nz d =
       record {
-        decides = rw (add-one at) (λ F M o. (turned top' l n kept nz d e F M o).0);
-        owing = rw (add-one at) (λ F M o. (turned top' l n kept nz d e F M o).1);
+        decides = rw (add-one at) (λ F M o. (turned l n kept nz d F M o).0);
+        owing = rw (add-one at) (λ F M o. (turned l n kept nz d F M o).1);
         passed = omega arith;
         short = t.short;
         long = omega (arith, length-set P at y, t.long);

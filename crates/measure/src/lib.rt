@@ -2,20 +2,21 @@
 // writing pass; or that the bytes are no tree with a word.
 #![tactic(auto)]
 
-ghost use Rattle.std.specs.Prelude.{List, ℕ};
+ghost use Rattle.std.specs.Prelude.{List, ℕ, IfSome, ◌≤◌};
 ghost use Rattle.words.specs.Told.{Told};
 ghost use Rattle.machine.specs.Machine.{Table};
 ghost use Rattle.layout.specs.Layout.{Opened};
 ghost use Rattle.layout.specs.Leaves.{Tells};
 ghost use Rattle.walk.specs.Plan.{Names};
-ghost use Rattle.measure.specs.Measures.{MeasureOf, Few, Measurable};
+ghost use Rattle.measure.specs.Measures.{MeasureOf, Measurable};
 
-// A tree's letters; or that the bytes are no tree with a word.
-#[derive(Clone, Copy)]
-pub enum TreeMeasure {
-    Counted { letters: usize },
-    Other,
-}
+use waiting::Stack;
+
+// What stands below all that waits: no number that may meet a symbol, so that bytes behind the tree's end are refused.
+const NOTHING: u16 = u16::MAX;
+
+// More than any sum of letters: they are fewer than 256 for each of 32,768 symbols.
+const SUMS: usize = 268435456;
 
 // The plan's number of the rule that x tells: the spot of its first word, and how many children it has.
 fn plan_of(numbers: &[u64], x: u64) -> u32
@@ -29,57 +30,42 @@ fn plan_of(numbers: &[u64], x: u64) -> u32
 fn ready(tree: &[u8], plan: &[u32]) -> bool
     ensures { Told (Measurable tree.now plan.now) result }
 {
-    if tree.len() == 0 {
-        return false;
-    }
-    if layout::TREE < tree.len() {
-        return false;
-    }
-    if plan.len() < tree.len() {
-        return false;
-    }
-    true
+    0 < tree.len() && tree.len() <= layout::TREE && tree.len() <= plan.len()
 }
 
-// Measures the tree that tree bytes are, from the initial state on, and plans its writing: `Other`
-// where they are no tree with a word. The letters are few whatever the lent numbers are.
+// The letters of the tree that tree bytes are, from the initial state on, and the plan of its writing;
+// none where they are no tree with a word. The letters are few whatever the lent numbers are.
 pub fn measure(
     numbers: &[u64; layout::NUMBERS],
     tree: &[u8],
     plan: &mut [u32; layout::TREE],
-) -> TreeMeasure
+) -> Option<usize>
     ensures by_index { (F : List ℕ) (M : Table) → Opened F numbers.now M → MeasureOf F tree.now plan.new M M.start result }
-    ensures few { Few result }
+    ensures few { IfSome result (λ letters. letters ≤ 8388608) }
 {
     if !ready(tree, plan) {
-        return TreeMeasure::Other;
+        return None;
     }
-    let mut stack = [0u16; 208];
-    stack[0] = 65535;
-    let mut top: usize = 1;
+    let mut places = [0u16; waiting::PLACES];
+    let mut stack = Stack::new(&mut places, NOTHING);
     let mut next = layout::start(numbers);
     let mut sum: usize = 0;
-    let mut at = 0;
-    while at < tree.len() {
-        let f = layout::wide(tree[at]);
-        if !waiting::usual(f, next, top) {
-            return TreeMeasure::Other;
+    for (at, &byte) in tree.iter().enumerate() {
+        let f = usize::from(byte);
+        if !stack.usual(f, next) {
+            return None;
         }
         let x = rule_leaves::kept_for_full(numbers, next % layout::STATES, f);
         if x == 0 {
-            return TreeMeasure::Other;
+            return None;
         }
         plan[at] = plan_of(numbers, x);
-        sum = sum + rule_leaves::letters_in(x);
-        next = waiting::turn(&mut stack, top, next, x);
-        top = top + rule_leaves::kids_in(x) - 1;
-        at += 1;
+        sum += rule_leaves::letters_in(x);
+        next = stack.turn(next, x);
     }
-    if 0 < top {
-        return TreeMeasure::Other;
+    if !stack.is_empty() {
+        return None;
     }
     // The rest of the division is the sum; with it the compiler keeps nothing but the sum in the loop.
-    TreeMeasure::Counted {
-        letters: sum % 268435456,
-    }
+    Some(sum % SUMS)
 }

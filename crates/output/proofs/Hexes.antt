@@ -1,5 +1,6 @@
 -- Hexadecimal digits that are put into places. Assumes nothing.
-use mathlib.Core.Path.{◌≡◌, sym, ap, ◌∙◌}
+use mathlib.Core.Path.{◌≡◌, sym, ap, subst, ◌∙◌}
+use Rattle.std.proofs.lemmas.List.{take-append-drop}
 use mathlib.Core.List.{List, [], ◌∷◌, ◌++◌, append-nil, append_assoc}
 use mathlib.Core.Logic.{⊎_elim}
 use Prim.Native.Nat.{ℕ, suc, ◌+◌, ◌-◌, ◌*◌, ◌/◌, ◌%◌, ◌<◌, ◌≤◌}
@@ -10,9 +11,9 @@ use lib.Seq.{take-suc, drop-cons, set_at, take_at, take_all, take-add, append_sn
 use borrow.Rule.Slice.PartMut.{put_mid}
 use Rattle.text.specs.Lines.{digit_of, hex_of}
 use Rattle.text.proofs.Digits.{length_hex, hex_append}
-use Rattle.output.specs.Queue.{stopped, Queued, Flushed}
-use Rattle.output.proofs.Queues.{queued_failed}
-use Rattle.output.specs.Places.{Spelt, TwoPlaces}
+use Rattle.output.specs.Queue.{stopped, Queued, Flushed, Waiting, TextPut}
+use Rattle.output.proofs.Queues.{queued_failed, put_as, put_then}
+use Rattle.output.specs.Places.{Spelt, SpeltSome, TwoPlaces}
 
 -- The first i bytes have 2 i digits.
 front_digits : (bytes : List ℕ) (i : ℕ) → i ≤ length bytes → length (hex_of (take i bytes)) ≡ i * 2
@@ -85,43 +86,66 @@ hex_piece B O P' at to n t h k s z =
         over : to ≡ stopped → ⊥
         over d = omega arith
 
--- The same, as the lender of bytes and places sees it.
-pub hex_lent : (bytes O P' : List ℕ) (i at to n : ℕ) → TwoPlaces O at to → to < length O → length O ≤ stopped
-    → Spelt (take (length bytes - i) (drop i bytes)) (take (length O - to) (drop to O)) P' n → (n ≡ 0 → ⊥)
-    → Queued (hex_of (take n (drop i bytes))) O at (put_mid to (length O - to) O P') (to + n * 2)
-hex_lent bytes O P' i at to n t h k s z =
-    let b : take (length bytes - i) (drop i bytes) ≡ drop i bytes = take_all (length bytes - i) (drop i bytes) (omega (arith, length-drop i bytes)) in
+-- The same, as the lender of places sees it.
+hex_lent : (bytes O P' : List ℕ) (at to n : ℕ) → TwoPlaces O at to → to < length O → length O ≤ stopped
+    → Spelt bytes (take (length O - to) (drop to O)) P' n → (n ≡ 0 → ⊥)
+    → Queued (hex_of (take n bytes)) O at (put_mid to (length O - to) O P') (to + n * 2)
+hex_lent bytes O P' at to n t h k s z =
     let p : take (length O - to) (drop to O) ≡ drop to O = take_all (length O - to) (drop to O) (omega (arith, length-drop to O)) in
     let short : length (drop to O) ≤ length O - to = omega (arith, length-drop to O) in
     let none : drop (length O - to) (drop to O) ≡ [] = drop_of_length-le (drop to O) short in
-    let s' : Spelt (drop i bytes) (drop to O) P' n = rw (b, p) at s in
-    rw (none, append-nil) (hex_piece (drop i bytes) O P' at to n t h k s' z)
+    let s' : Spelt bytes (drop to O) P' n = rw p at s in
+    rw (none, append-nil) (hex_piece bytes O P' at to n t h k s' z)
 
 -- The digits of the next n bytes.
-pub hex_more : (bytes : List ℕ) (i n : ℕ) → hex_of (take i bytes) ++ hex_of (take n (drop i bytes)) ≡ hex_of (take (i + n) bytes)
+hex_more : (bytes : List ℕ) (i n : ℕ) → hex_of (take i bytes) ++ hex_of (take n (drop i bytes)) ≡ hex_of (take (i + n) bytes)
 hex_more bytes i n = sym (hex_append (take i bytes) (take n (drop i bytes))) ∙ ap hex_of (sym (take-add i n bytes))
 
--- Less than two places were left where the waiting bytes ended, or where they were written: not all digits fit.
-pub hex_failed : (bytes O₀ O O' : List ℕ) (i u at to : ℕ) → Queued (hex_of (take i bytes)) O₀ u O at → TwoPlaces O at to
-    → length O' ≡ length O₀
-    → i < length bytes → length O < to + 2 → Queued (hex_of bytes) O₀ u O' stopped
-hex_failed bytes O₀ O O' i u at to q t e h k = queued_failed (hex_of bytes) O₀ O' u e over
+-- As many as have places, as the buffer is seen: m is what it was when two places were there.
+pub spelt_some : (bytes P' : List ℕ) (w m : Waiting) (O : List ℕ) (to n lent : ℕ) → m.bytes ≡ w.bytes → m.lent ≡ w.lent → TwoPlaces w.bytes w.used m.used
+    → O ≡ m.bytes → lent ≡ m.lent → to ≡ m.used → 2 ≤ length m.bytes - m.used → length O < stopped
+    → Spelt bytes (take (length O - to) (drop to O)) P' n
+    → SpeltSome bytes w (record { bytes = put_mid to (length O - to) O P'; used = to + n * 2; lent = lent }) n
+spelt_some bytes P' w m O to n lent kept same two e l f h k s = record {
+  few = omega (arith, s.many);
+  some = λ z. record {
+    queued = subst (λ (o : List ℕ). Queued (hex_of (take n bytes)) o w.used (put_mid to (length O - to) O P') (to + n * 2)) (e ∙ kept)
+        (hex_lent bytes O P' w.used to n (rw (f, e, kept) two) (omega (arith, ap length e)) (omega arith) s (λ y. omega arith));
+    same_buffer = l ∙ same;
+  };
+  none = λ z y. absurd (empty z y);
+}
   where
-    over : u + length (hex_of bytes) ≤ length O₀ → ⊥
-    over g =
+    empty : n ≡ 0 → 0 < length bytes → ⊥
+    empty z y = omega (arith, s.many, length-take (length O - to) (drop to O), length-drop to O, ap length e)
+
+-- Less than two places were left where the waiting bytes ended, or where they were written: a write has failed.
+pub spelt_none : (bytes : List ℕ) (w m : Waiting) (O : List ℕ) (lent : ℕ) → m.bytes ≡ w.bytes → m.lent ≡ w.lent → TwoPlaces w.bytes w.used m.used
+    → O ≡ m.bytes → lent ≡ m.lent → length m.bytes - m.used < 2 → SpeltSome bytes w (record { bytes = O; used = stopped; lent = lent }) 0
+spelt_none bytes w m O lent kept same two e l k = record {
+  few = omega arith;
+  some = λ z. absurd (omega arith);
+  none = λ z y. record { queued = queued_failed (hex_of bytes) w.bytes O w.used (ap length (e ∙ kept)) (over y); same_buffer = l ∙ same };
+}
+  where
+    over : 0 < length bytes → w.used + length (hex_of bytes) ≤ length w.bytes → ⊥
+    over y g =
         let all = length_hex bytes in
-        let some = front_digits bytes i (omega arith) in
-        let here : at ≡ u + length (hex_of (take i bytes)) = q.fits (omega arith) in
-        ⊎_elim (λ (d : (to ≡ at) × (at + 2 ≤ length O)). omega (arith, d.0, d.1))
-        (λ (d : (length O < at + 2) × Flushed O at to). omega (arith, d.0, q.kept)) t
+        ⊎_elim (λ (d : (m.used ≡ w.used) × (w.used + 2 ≤ length w.bytes)). omega (arith, d.0, d.1, ap length kept))
+        (λ (d : (length w.bytes < w.used + 2) × Flushed w.bytes w.used m.used). omega (arith, d.0)) two
 
--- Of bytes that are left none was spelt: less than two places were there.
-pub hex_none : (bytes O P' : List ℕ) (i to n : ℕ) → Spelt (take (length bytes - i) (drop i bytes)) (take (length O - to) (drop to O)) P' n → n ≡ 0
-    → i < length bytes → length O < to + 2
-hex_none bytes O P' i to n s z h =
-    omega (arith, s.many, length-take (length bytes - i) (drop i bytes), length-drop i bytes, length-take (length O - to) (drop to O), length-drop to O)
+-- The digits of more bytes behind those of the first i; or none, and it is as if all were put.
+pub hexes_more : (bytes : List ℕ) (i n : ℕ) {w v x : Waiting} → i < length bytes → TextPut (hex_of (take i bytes)) w v
+    → SpeltSome (take (length bytes - i) (drop i bytes)) v x n → 0 < n → (i + n ≤ length bytes) × TextPut (hex_of (take (i + n) bytes)) w x
+hexes_more bytes i n h p s z =
+    let b : take (length bytes - i) (drop i bytes) ≡ drop i bytes = take_all (length bytes - i) (drop i bytes) (omega (arith, length-drop i bytes)) in
+    let s' : SpeltSome (drop i bytes) _ _ n = rw b at s in
+    (omega (arith, s'.few, length-drop i bytes), put_as (hex_more bytes i n) (put_then p (s'.some z)))
 
--- No more bytes are spelt than are left.
-pub hex_few : (bytes P P' : List ℕ) (i n : ℕ) → Spelt (take (length bytes - i) (drop i bytes)) P P' n → i ≤ length bytes
-    → i + n ≤ length bytes
-hex_few bytes P P' i n s h = omega (arith, s.many, length-take (length bytes - i) (drop i bytes), length-drop i bytes)
+pub hexes_failed : (bytes : List ℕ) (i n : ℕ) {w v x : Waiting} → i < length bytes → TextPut (hex_of (take i bytes)) w v
+    → SpeltSome (take (length bytes - i) (drop i bytes)) v x n → n ≡ 0 → TextPut (hex_of bytes) w x
+hexes_failed bytes i n h p s z =
+    let b : take (length bytes - i) (drop i bytes) ≡ drop i bytes = take_all (length bytes - i) (drop i bytes) (omega (arith, length-drop i bytes)) in
+    let s' : SpeltSome (drop i bytes) _ _ n = rw b at s in
+    put_as (sym (hex_append (take i bytes) (drop i bytes)) ∙ ap hex_of (take-append-drop i bytes))
+    (put_then p (s'.none z (omega (arith, length-drop i bytes))))

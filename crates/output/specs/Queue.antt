@@ -1,5 +1,5 @@
 -- What is put into a buffer of which the first `used` bytes wait to be written. Definitions only.
-use Rattle.std.specs.Prelude.{◌≡◌, List, ◌++◌, ◌⊎◌, ℕ, ◌+◌, ◌<◌, ◌≤◌, length, take}
+use Rattle.std.specs.Prelude.{◌≡◌, List, ◌++◌, ◌⊎◌, ℕ, ◌+◌, ◌<◌, ◌≤◌, length, take, set, Option, Some, None}
 
 -- The number that says that a write has failed.
 abbrev pub stopped : ℕ
@@ -15,3 +15,27 @@ pub record Queued (t O : List ℕ) (used : ℕ) (O' : List ℕ) (r : ℕ) : Type
 -- The waiting bytes were all written, and none wait; or a write has failed.
 abbrev pub Flushed : List ℕ → ℕ → ℕ → Type 0
 Flushed O used r = ((r ≡ 0) × (used ≤ length O) × (used < stopped)) ⊎ (r ≡ stopped)
+
+-- What waits in a lent buffer: its bytes, how many of them at their start wait, or that a write has failed, and which lent buffer it is.
+pub record Waiting : Type 0 where
+  pub bytes : List ℕ
+  pub used : ℕ
+  pub lent : ℕ
+
+-- How many bytes wait, or the number that says that a write has failed.
+abbrev pub count : Option ℕ → ℕ
+count (Some n) = n
+count None = stopped
+
+-- A text was put behind the bytes that wait, in the same lent buffer.
+pub record TextPut (t : List ℕ) (w w' : Waiting) : Type 0 where
+  pub queued : Queued t w.bytes w.used w'.bytes w'.used
+  pub same_buffer : w'.lent ≡ w.lent
+
+-- A byte was stored behind the bytes that wait, in the same lent buffer.
+pub record Stored (b : ℕ) (w w' : Waiting) : Type 0 where
+  pub place : w.used < length w.bytes
+  pub going : w.used < stopped
+  pub bytes : w'.bytes ≡ set w.bytes w.used b
+  pub used : w'.used ≡ w.used + 1
+  pub same_buffer : w'.lent ≡ w.lent

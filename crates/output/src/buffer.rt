@@ -1,13 +1,11 @@
-// The buffer: bytes that wait in it, and writing them.
-ghost use Rattle.std.specs.Prelude.{◌≡◌, [], ◌∷◌, take};
-ghost use Rattle.output.specs.Queue.{Queued, Flushed};
+// A lent buffer in front of standard output: the bytes that wait in it, and writing them.
+ghost use Rattle.std.specs.Prelude.{◌≡◌, [], ◌∷◌, ◌+◌, ◌-◌, ◌<◌, ◌≤◌, true, false, length, take, set};
+ghost use Rattle.output.specs.Queue.{stopped, TextPut, Flushed, Stored};
 ghost use Rattle.output.specs.Decimal.{decimal};
 
 use crate::streams::{Streams, fail};
 use std::io::Print;
-
-// What counts the waiting bytes after a write has failed.
-pub const STOPPED: usize = usize::MAX;
+use std::marker::Model;
 
 // The first n bytes of buf, or all of it where it has fewer.
 pub fn front(buf: &[u8], n: usize) -> &[u8]
@@ -27,56 +25,121 @@ pub fn print(to: Streams, bytes: &[u8]) -> bool {
     }
 }
 
-// Writes the waiting bytes, and answers that none wait, or STOPPED.
-pub fn flush(to: Streams, out: &[u8], used: usize) -> usize
-    ensures { Flushed out.now used result }
-{
-    if used == STOPPED {
-        return STOPPED;
-    }
-    if out.len() < used {
-        return STOPPED;
-    }
-    if print(to, front(out, used)) {
-        return 0;
-    }
-    STOPPED
+// Bytes of which so many wait at the start to be written; or none once a write has failed, and then
+// everything that is put is dropped.
+#[derive(Drop)]
+pub struct Out<'a> {
+    pub to: Streams,
+    pub bytes: &'a mut [u8],
+    pub waiting: Option<usize>,
 }
 
-// Puts a byte behind the waiting ones, which are written first where the buffer is full.
-pub fn put(to: Streams, c: u8, out: &mut [u8], used: usize) -> usize
-    ensures { Queued (c ∷ []) out.old used out.new result }
-{
-    if used < out.len() {
-        out[used] = c;
-        return used + 1;
-    }
-    let at = flush(to, out, used);
-    if at < out.len() {
-        out[at] = c;
-        return at + 1;
-    }
-    STOPPED
+impl<'a> Model for Out<'a> {
+    ghost use Rattle.output.specs.Queue.{count, Waiting};
+
+    ghost Value = { Waiting };
+
+    ghost view = { λ o. record { bytes = o.bytes.now; used = count o.waiting; lent = o.bytes.ghost_name } };
 }
 
-// Puts bytes, one after the other.
-pub fn put_all(to: Streams, bytes: &[u8], out: &mut [u8], used: usize) -> usize
-    ensures { Queued bytes.now out.old used out.new result }
-{
-    let mut at = used;
-    let mut i = 0;
-    while i < bytes.len() {
-        at = put(to, bytes[i], out, at);
-        i += 1;
+impl<'a> Out<'a> {
+    // Nothing waits yet.
+    pub fn new(to: Streams, bytes: &'a mut [u8]) -> Out<'a>
+        ensures { (result.bytes ≡ bytes.old) × (result.used ≡ 0) × (result.lent ≡ bytes.entry.ghost_name) }
+    {
+        Out {
+            to,
+            bytes,
+            waiting: Some(0),
+        }
     }
-    at
-}
 
-// Puts a number in decimal.
-pub fn put_number(to: Streams, n: u64, out: &mut [u8], used: usize) -> usize
-    ensures { Queued (decimal n) out.old used out.new result }
-{
-    let mut digits = [0u8; 20];
-    let k = io::decimal(n, &mut digits);
-    put_all(to, &digits[..k], out, used)
+    // The bytes that wait; none once a write has failed.
+    pub fn waiting(&self) -> &[u8]
+        ensures { self.now.used < stopped → result.now ≡ take self.now.used self.now.bytes }
+    {
+        match self.waiting {
+            Some(n) => front(self.bytes, n),
+            None => &[],
+        }
+    }
+
+    // Whether the waiting bytes could be written.
+    fn write(&self) -> bool
+        ensures { result ≡ true → (self.now.used ≤ length self.now.bytes) × (self.now.used < stopped) }
+    {
+        match self.waiting {
+            Some(n) => n <= self.bytes.len() && print(self.to, &self.bytes[..n]),
+            None => false,
+        }
+    }
+
+    // Writes the waiting bytes, and answers whether that and all writes before went well.
+    pub fn flush(&mut self) -> bool
+        ensures kept { self.new.bytes ≡ self.old.bytes }
+        ensures same_buffer { self.new.lent ≡ self.old.lent }
+        ensures flushed { Flushed self.old.bytes self.old.used self.new.used }
+    {
+        let written = self.write();
+        self.waiting = if written { Some(0) } else { None };
+        written
+    }
+
+    // How many places there are behind the waiting bytes; none once a write has failed.
+    pub(crate) fn places(&self) -> usize
+        ensures { result ≡ length self.now.bytes - self.now.used }
+    {
+        match self.waiting {
+            Some(n) => self.bytes.len().saturating_sub(n),
+            None => 0,
+        }
+    }
+
+    // Stores a byte behind the waiting ones, where it has a place, and answers whether it has.
+    fn store(&mut self, byte: u8) -> bool
+        ensures placed { result ≡ true → Stored byte self.old self.new }
+        ensures full { result ≡ false → (self.new ≡ self.old) × (length self.old.bytes ≤ self.old.used) }
+    {
+        let Some(n) = self.waiting else {
+            return false;
+        };
+        if n < self.bytes.len() {
+            self.bytes[n] = byte;
+            self.waiting = Some(n + 1);
+            return true;
+        }
+        false
+    }
+
+    // Puts a byte behind the waiting ones, which are written first where the buffer is full.
+    pub fn put(&mut self, byte: u8)
+        ensures { TextPut (byte ∷ []) self.old self.new }
+    {
+        if self.store(byte) {
+            return;
+        }
+        self.flush();
+        if self.store(byte) {
+            return;
+        }
+        self.waiting = None;
+    }
+
+    // Puts bytes, one after the other.
+    pub fn put_all(&mut self, bytes: &[u8])
+        ensures { TextPut bytes.now self.old self.new }
+    {
+        for byte in bytes {
+            self.put(*byte);
+        }
+    }
+
+    // Puts a number in decimal.
+    pub fn put_number(&mut self, n: u64)
+        ensures { TextPut (decimal n) self.old self.new }
+    {
+        let mut digits = [0u8; 20];
+        let k = io::decimal(n, &mut digits);
+        self.put_all(&digits[..k]);
+    }
 }

@@ -1,65 +1,66 @@
 // Bytes in lowercase hexadecimal, put into the buffer as many at a time as it has places for.
-ghost use Rattle.std.specs.Prelude.{min, ◌≡◌};
+ghost use Rattle.std.specs.Prelude.{◌≡◌};
 ghost use Rattle.text.specs.Lines.{hex_of};
-ghost use Rattle.output.specs.Queue.{Queued};
-ghost use Rattle.output.specs.Places.{Spelt, TwoPlaces};
+ghost use Rattle.output.specs.Queue.{TextPut};
+ghost use Rattle.output.specs.Places.{Spelt, SpeltSome, TwoPlaces};
 
-use crate::buffer::{STOPPED, flush};
-use crate::streams::Streams;
-
-// The lesser of two numbers.
-fn least(a: usize, b: usize) -> usize
-    ensures { result ≡ min a b }
-{
-    if a < b { a } else { b }
-}
+use crate::buffer::Out;
 
 // The digits of bytes, two for each, put at the front of places, as far as these reach; answers of
 // how many bytes.
 fn spell(bytes: &[u8], places: &mut [u8]) -> usize
     ensures { Spelt bytes.now places.old places.new result }
 {
-    let n = least(bytes.len(), places.len() / 2);
-    let mut i = 0;
-    while i < n {
-        let b = bytes[i];
-        let to = i * 2;
-        places[to] = digits::digit(b / 16);
-        places[to + 1] = digits::digit(b % 16);
-        i += 1;
+    let n = bytes.len().min(places.len() / 2);
+    for i in 0..n {
+        let byte = bytes[i];
+        places[i * 2] = digits::digit(byte / 16);
+        places[i * 2 + 1] = digits::digit(byte % 16);
     }
     n
 }
 
-// Where the next two digits go: the waiting bytes are written first where two have no place.
-fn room_for_two(to: Streams, out: &[u8], used: usize) -> usize
-    ensures { TwoPlaces out.now used result }
-{
-    if used < out.len() {
-        if 1 < out.len() - used {
-            return used;
+impl<'a> Out<'a> {
+    // Leaves places for two digits: the waiting bytes are written first where two have none.
+    fn make_room_for_two(&mut self)
+        ensures kept { self.new.bytes ≡ self.old.bytes }
+        ensures same_buffer { self.new.lent ≡ self.old.lent }
+        ensures two { TwoPlaces self.old.bytes self.old.used self.new.used }
+    {
+        if self.places() < 2 {
+            self.flush();
         }
     }
-    flush(to, out, used)
-}
 
-// Puts bytes in lowercase hexadecimal.
-pub fn put_hex(to: Streams, bytes: &[u8], out: &mut [u8], used: usize) -> usize
-    ensures { Queued (hex_of bytes.now) out.old used out.new result }
-{
-    let mut at = used;
-    let mut i = 0;
-    while i < bytes.len() {
-        let start = room_for_two(to, out, at);
-        if out.len() <= start {
-            return STOPPED;
+    // Puts the digits of as many bytes as there are places for, and answers how many; of none only where a write has failed.
+    fn put_some_hex(&mut self, bytes: &[u8]) -> usize
+        ensures { SpeltSome bytes.now self.old self.new result }
+    {
+        self.make_room_for_two();
+        if self.places() < 2 {
+            self.waiting = None;
+            return 0;
         }
-        let n = spell(&bytes[i..], &mut out[start..]);
-        if n == 0 {
-            return STOPPED;
-        }
-        at = start + n * 2;
-        i += n;
+        let Some(start) = self.waiting else {
+            return 0;
+        };
+        let n = spell(bytes, &mut self.bytes[start..]);
+        self.waiting = Some(start + n * 2);
+        n
     }
-    at
+
+    // Puts bytes in lowercase hexadecimal.
+    pub fn put_hex(&mut self, bytes: &[u8])
+        ensures { TextPut (hex_of bytes.now) self.old self.new }
+    {
+        let mut done = 0;
+        // How many bytes a turn takes is known only in it, so no range or iterator has the turns.
+        while done < bytes.len() {
+            let n = self.put_some_hex(&bytes[done..]);
+            if n == 0 {
+                return;
+            }
+            done += n;
+        }
+    }
 }

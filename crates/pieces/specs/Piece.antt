@@ -5,10 +5,9 @@ use Rattle.machine.specs.Machine.{Table}
 use Rattle.text.specs.Lines.{Lines, behind, line, lines_of}
 use Rattle.trees.specs.Shape.{tree_most}
 use Rattle.table.specs.Opening.{Opens}
-use Rattle.table.specs.declared.Opening.{Opening}
 use Rattle.long_line.specs.Held.{count_most, LongHeld}
 use Rattle.long_line.specs.declared.LongLine.{LongLine}
-use Rattle.output.specs.Queue.{Queued}
+use Rattle.output.specs.Queue.{Waiting, TextPut}
 use Rattle.respond.specs.Response.{line_answer}
 use Rattle.respond.specs.declared.Asked.{Asked}
 
@@ -27,9 +26,9 @@ last_of (behind l) = l
 last_of (line l ls) = last_of ls
 
 -- The answers to all whole lines were put, and the line so far tells of the characters behind the last line feed, fewer than k held.
-pub record LinesAnswered (a : Asked) (F I : List ℕ) (t : Reply Table) (room : ℕ) (ls : Lines) (O : List ℕ) (used : ℕ) (O' : List ℕ) (r : ℕ)
-    (k : ℕ) (tree : List ℕ) (l : LongLine) : Type 0 where
-  pub answers : Queued (answers_to a t room ls) O used O' r
+pub record LinesAnswered (a : Asked) (F I : List ℕ) (t : Reply Table) (room : ℕ) (ls : Lines) (O O' : Waiting) (k : ℕ)
+    (tree : List ℕ) (l : LongLine) : Type 0 where
+  pub answers : TextPut (answers_to a t room ls) O O'
   pub held : LongHeld F I k (last_of ls) tree l
 
 -- How many characters are held at most, after so many of the piece: none are lost where the tree has places for so many bytes.
@@ -37,10 +36,10 @@ abbrev pub held_most : ℕ → ℕ
 held_most at = 2 * tree_most + 2 + at
 
 -- The loop over a piece: the answers to the lines that end before `at` were put, whatever characters came before the piece.
-pub record PieceSoFar (a : Asked) (F I T₀ : List ℕ) (l₀ : LongLine) (o : Opening) (room : ℕ) (piece O₀ : List ℕ) (at used : ℕ) (O T : List ℕ)
-    (l : LongLine) : Type 0 where
+pub record PieceSoFar (a : Asked) (F I T₀ : List ℕ) (l₀ : LongLine) (o : Reply (Unit {0})) (room : ℕ) (piece : List ℕ) (O₀ : Waiting) (at : ℕ)
+    (O : Waiting) (T : List ℕ) (l : LongLine) : Type 0 where
   pub inside : at ≤ length piece
   pub long : length T ≡ length T₀
   pub left : (cs : List ℕ) (t : Reply Table) → FeedFree cs → length cs + length piece < count_most → held_most (length piece) ≤ 2 * length T₀
       → LongHeld F I (held_most 0) cs T₀ l₀ → Opens F I t o
-      → LinesAnswered a F I t room (lines_of (cs ++ take at piece)) O₀ 0 O used (held_most at) T l
+      → LinesAnswered a F I t room (lines_of (cs ++ take at piece)) O₀ O (held_most at) T l

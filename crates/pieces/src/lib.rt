@@ -8,48 +8,32 @@ ghost use Rattle.text.specs.Lines.{lines_of};
 ghost use Rattle.trees.specs.Shape.{tree_most};
 ghost use Rattle.table.specs.Opening.{Opens};
 ghost use Rattle.long_line.specs.Held.{count_most, LongHeld};
-ghost use Rattle.output.specs.Queue.{Queued};
-ghost use Rattle.respond.specs.Response.{line_answer};
+ghost use Rattle.output.specs.Queue.{Waiting, TextPut};
+ghost use Rattle.respond.specs.Response.{SameRoom, line_answer};
 ghost use Rattle.pieces.specs.Piece.{FeedFree, LinesAnswered, PieceSoFar};
 
+use layout::OpenTable;
 use long_line::LongLine;
-use output::Streams;
-use respond::{Asked, to_line};
-use table::Opening;
+use output::Out;
+use respond::{Question, Scratch};
 
-// What a piece leaves: the line so far, and how many bytes wait to be written.
-#[derive(Clone, Copy)]
-pub struct Rest {
-    pub line: LongLine,
-    pub used: usize,
-}
-
-// Answers a whole line and counts the answer; answers how many bytes wait to be written then.
+// Answers a whole line and counts the answer.
 pub fn answer(
-    to: Streams,
-    asked: Asked,
+    question: Question,
     line: LongLine,
-    opening: Opening,
-    frames: &[u8; layout::FRAMES],
-    numbers: &[u64; layout::NUMBERS],
     tree: &[u8],
-    image: &mut [u8; layout::TREE],
-    plan: &mut [u32; layout::TREE],
-    room: &mut [u8],
-    out: &mut [u8],
+    scratch: &mut Scratch,
+    out: &mut Out,
     counts: &mut [u64],
-    used: usize,
-) -> usize
-    ensures { (cs : List ℕ) (t : Reply Table) → length cs < count_most → tree_most < length tree.now
-        → LongHeld frames.now numbers.now (2 * length tree.now) cs tree.now line
-        → Opens frames.now numbers.now t opening
-        → Queued (line_answer asked t (length room.old) cs) out.old used out.new result }
+)
+    ensures same_room { SameRoom scratch.old.room scratch.new.room }
+    ensures answered { (cs : List ℕ) (t : Reply Table) → length cs < count_most → tree_most < length tree.now
+        → LongHeld question.entry.frames.now question.entry.numbers.now (2 * length tree.now) cs tree.now line
+        → Opens question.entry.frames.now question.entry.numbers.now t question.entry.opening
+        → TextPut (line_answer question.entry.asked t (length scratch.old.room.now) cs) out.old out.new }
 {
-    let said = to_line(
-        to, asked, line, opening, frames, numbers, tree, image, plan, room, out, used,
-    );
-    line_counts::raise(counts, said.counted);
-    said.used
+    let counted = question.to_line(line, tree, scratch, out);
+    line_counts::raise(counts, counted);
 }
 
 // How far a piece was taken, and what that leaves.
@@ -57,87 +41,72 @@ pub fn answer(
 struct Taken {
     at: usize,
     line: LongLine,
-    used: usize,
 }
 
 // Takes the characters of a piece from `at` on, up to a line feed, and answers the line that ends there; or up to the piece's end.
 fn take_line(
-    to: Streams,
-    asked: Asked,
+    question: Question,
     line: LongLine,
     piece: &[u8],
     at: usize,
-    opening: Opening,
-    frames: &[u8; layout::FRAMES],
-    numbers: &[u64; layout::NUMBERS],
     tree: &mut [u8],
-    image: &mut [u8; layout::TREE],
-    plan: &mut [u32; layout::TREE],
-    room: &mut [u8],
-    out: &mut [u8],
+    scratch: &mut Scratch,
+    out: &mut Out,
     counts: &mut [u64],
-    used: usize,
 ) -> Taken
     requires { at < length piece.now }
+    ensures same_room { SameRoom scratch.old.room scratch.new.room }
     ensures at_lt_at { (at < result.at) × (result.at ≤ length piece.now) }
-    ensures by_index { (T₀ : List ℕ) (l₀ : LongLine) (O₀ : List ℕ)
-        → PieceSoFar asked frames.now numbers.now T₀ l₀ opening (length room.old) piece.now O₀
-        at used out.old tree.old line
-        → PieceSoFar asked frames.now numbers.now T₀ l₀ opening (length room.old) piece.now O₀
-        result.at result.used out.new tree.new result.line }
+    ensures by_index { (T₀ : List ℕ) (l₀ : LongLine) (O₀ : Waiting)
+        → PieceSoFar question.entry.asked question.entry.frames.now question.entry.numbers.now T₀ l₀ question.entry.opening
+        (length scratch.old.room.now) piece.now O₀ at out.old tree.old line
+        → PieceSoFar question.entry.asked question.entry.frames.now question.entry.numbers.now T₀ l₀ question.entry.opening
+        (length scratch.old.room.now) piece.now O₀ result.at out.new tree.new result.line }
 {
     let fed = hexline::feed_all(line.line, &piece[at..], tree);
     let line = long_line::with_rest(line, fed.line);
     let at = at + fed.taken;
     if at < piece.len() {
-        let used = answer(
-            to, asked, line, opening, frames, numbers, tree, image, plan, room, out, counts, used,
-        );
-        let line = long_line::start();
+        answer(question, line, tree, scratch, out, counts);
         return Taken {
             at: at + 1,
-            line,
-            used,
+            line: long_line::start(),
         };
     }
-    Taken { at, line, used }
+    Taken { at, line }
 }
 
 // Takes a piece of the input: each line that ends in it is answered, in their order. The tree has places for the bytes of the longest
 // tree, and of the piece.
 pub fn take(
-    to: Streams,
-    asked: Asked,
+    question: Question,
     line: LongLine,
     piece: &[u8],
-    opening: Opening,
-    frames: &[u8; layout::FRAMES],
-    numbers: &[u64; layout::NUMBERS],
     tree: &mut [u8],
-    image: &mut [u8; layout::TREE],
-    plan: &mut [u32; layout::TREE],
-    room: &mut [u8],
-    out: &mut [u8],
+    scratch: &mut Scratch,
+    out: &mut Out,
     counts: &mut [u64],
-) -> Rest
-    ensures { (cs : List ℕ) (t : Reply Table) → FeedFree cs → length cs + length piece.now < count_most
+) -> LongLine
+    ensures same_room { SameRoom scratch.old.room scratch.new.room }
+    ensures answered { (cs : List ℕ) (t : Reply Table) → FeedFree cs → length cs + length piece.now < count_most
         → 2 * tree_most + 2 + length piece.now ≤ 2 * length tree.old
-        → LongHeld frames.now numbers.now (2 * length tree.old) cs tree.old line
-        → Opens frames.now numbers.now t opening
-        → LinesAnswered asked frames.now numbers.now t (length room.old) (lines_of (cs ++ piece.now))
-        out.old 0 out.new result.used (2 * length tree.new) tree.new result.line }
+        → LongHeld question.entry.frames.now question.entry.numbers.now (2 * length tree.old) cs tree.old line
+        → Opens question.entry.frames.now question.entry.numbers.now t question.entry.opening
+        → LinesAnswered question.entry.asked question.entry.frames.now question.entry.numbers.now t (length scratch.old.room.now)
+        (lines_of (cs ++ piece.now)) out.old out.new (2 * length tree.new) tree.new result }
 {
-    let mut line = long_line::with_places(line, tree, frames, numbers);
-    let mut used = 0;
+    let Question {
+        frames,
+        numbers,
+        ..
+    } = question;
+    let mut line = long_line::with_places(line, tree, &OpenTable { frames, numbers });
     let mut at = 0;
+    // A turn goes up to the next line feed, so no range or iterator has the turns.
     while at < piece.len() {
-        let taken = take_line(
-            to, asked, line, piece, at, opening, frames, numbers, tree, image, plan, room, out,
-            counts, used,
-        );
+        let taken = take_line(question, line, piece, at, tree, scratch, out, counts);
         at = taken.at;
-        used = taken.used;
         line = taken.line;
     }
-    Rest { line, used }
+    line
 }

@@ -5,45 +5,33 @@
 ghost use Rattle.std.specs.Prelude.{◌≡◌, List, ℕ};
 ghost use Rattle.words.specs.Reply.{given};
 ghost use Rattle.records.specs.Symbols.{last_symbol};
-ghost use Rattle.layout.specs.Layout.{Meant};
+ghost use Rattle.layout.specs.Lent.{Means};
 ghost use Rattle.read_record.specs.RecordRead.{RecordRead, FewRead};
 
-use record_symbols::LastSymbol;
-use stream_check::StreamCheck;
+use layout::OpenTable;
 use words::No;
 
-// The last symbol of the list under which a record was read, or the refusal.
-#[derive(Clone, Copy)]
-pub enum Reading {
-    Record(u8),
-    Refused(No),
-}
-
 // Reads a stream under a list with that last symbol: 21 to 23, then 6.
-fn read_under(last: u8, stream: &[u8]) -> Reading
+fn read_under(last: u8, stream: &[u8]) -> Result<u8, No>
     ensures few_read { FewRead stream.now result }
     ensures by_index { (ar : List ℕ) → last_symbol ar ≡ given last → RecordRead ar stream.now result }
 {
-    match stream_check::check(stream, last, 255) {
-        StreamCheck::Refused(no) => return Reading::Refused(no),
-        StreamCheck::Whole => {}
-    }
+    stream_check::check(stream, last, 255)?;
     if layout::TREE <= stream.len() {
-        return Reading::Refused(No {
+        return Err(No {
             number: 6,
             place: 0,
         });
     }
-    Reading::Record(last)
+    Ok(last)
 }
 
-// Reads a stream: 20 for the symbol list, then 21 to 23, then 6 for an image of too many symbols.
-pub fn read(frames: &[u8], numbers: &[u64], stream: &[u8]) -> Reading
+// Reads a stream: the last symbol of the list under which it is a record's; or 20 for the list, then 21 to 23, then 6 for an image of
+// too many symbols.
+pub fn read(table: &OpenTable<'_>, stream: &[u8]) -> Result<u8, No>
     ensures few_read { FewRead stream.now result }
-    ensures meant { Meant frames.now numbers.now (λ M. RecordRead M.arities stream.now result) }
+    ensures meant { Means table.now (λ M. RecordRead M.arities stream.now result) }
 {
-    match record_symbols::last_symbol(frames, numbers) {
-        LastSymbol::Refused(no) => Reading::Refused(no),
-        LastSymbol::Last(last) => read_under(last, stream),
-    }
+    let last = record_symbols::last_symbol(table)?;
+    read_under(last, stream)
 }

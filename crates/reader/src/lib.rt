@@ -1,12 +1,19 @@
 // A reader keeps a table text and the place of its next line together; `lines::take_line` does the work.
 #![tactic(auto)]
 
-ghost use Rattle.std.specs.Prelude.{◌≡◌, ◌*◌, ◌≤◌, length, drop};
+ghost use Rattle.std.specs.Prelude.{◌≡◌, ◌*◌, ◌≤◌, length};
 ghost use Rattle.text.specs.Limits.{text_most};
-ghost use Rattle.lines.specs.Scan.{scan, LineTaken};
-ghost use Rattle.reader.specs.Ahead.{ahead};
+ghost use Rattle.lines.specs.Scan.{scan};
+ghost use Rattle.reader.specs.Ahead.{ahead, FrameRead};
 
-use lines::Line;
+use words::No;
+
+// A frame that was read: the place of its line, and how many bytes it has.
+#[derive(Clone, Copy)]
+pub struct Frame {
+    pub place: usize,
+    pub bytes: usize,
+}
 
 // A table text and the place in it where the next line starts.
 #[derive(Drop)]
@@ -15,27 +22,33 @@ pub struct Reader<'a> {
     at: usize,
 }
 
-// The reader of a text at a place.
-fn new<'a>(text: &'a [u8], at: usize) -> Reader<'a>
-    ensures { (result.text ≡ text.entry) × (result.at ≡ at) }
-{
-    Reader { text, at }
-}
+impl<'a> Reader<'a> {
+    // The reader at a text's beginning.
+    pub fn new(text: &'a [u8]) -> Reader<'a>
+        ensures { (result.text ≡ text.entry) × (result.at ≡ 0) }
+    {
+        Reader { text, at: 0 }
+    }
 
-// The line that a reader comes to next, decoded into frames from `used` on.
-fn next<'a, 'b>(r: Reader<'a>, frames: &'b mut [u8], used: usize) -> Line
-    requires at_in_bounds { (r.at ≤ length r.text.now) × (length r.text.now ≤ text_most) }
-    requires used_bound { (2 * used ≤ r.at) × (16384 ≤ length frames.old) }
-    ensures { LineTaken r.entry.text.now (scan (ahead r.entry)) r.entry.at used frames.old frames.new result }
-{
-    lines::take_line(r.text, r.at, frames, used)
-}
-
-// Decodes the line of text that starts at `at` into frames from `used` on, by a reader that stands there.
-pub fn next_line(text: &[u8], at: usize, frames: &mut [u8], used: usize) -> Line
-    requires at_in_bounds { (at ≤ length text.now) × (length text.now ≤ text_most) }
-    requires used_bound { (2 * used ≤ at) × (16384 ≤ length frames.old) }
-    ensures { LineTaken text.now (scan (drop at text.now)) at used frames.old frames.new result }
-{
-    next(new(text, at), frames, used)
+    // The frame of the line that comes next, decoded into frames from `used` on: none at the text's
+    // end, and no 2 for a line that is no bytes.
+    pub fn next(&mut self, frames: &mut [u8], used: usize) -> Result<Option<Frame>, No>
+        requires at_in_bounds { (self.old.at ≤ length self.old.text.now) × (length self.old.text.now ≤ text_most) }
+        requires used_bound { (2 * used ≤ self.old.at) × (16384 ≤ length frames.old) }
+        ensures read { FrameRead self.old.text.now (scan (ahead self.old)) self.old.at used frames.old frames.new self.new.at result }
+        ensures text { self.new.text ≡ self.old.text }
+    {
+        let place = self.at;
+        if place == self.text.len() {
+            return Ok(None);
+        }
+        let Some(line) = lines::take_line(self.text, place, frames, used) else {
+            return Err(No { number: 2, place });
+        };
+        self.at = line.next;
+        Ok(Some(Frame {
+            place,
+            bytes: line.bytes,
+        }))
+    }
 }

@@ -4,7 +4,6 @@
 // `word LENGTH TERMS HEX`, `tree HEX`, `record HEX`, `no NUMBER PLACE` or `not hex`.
 #![tactic(auto)]
 
-use console::Input;
 use output::Streams;
 use respond::Asked;
 use std::env::Env;
@@ -12,25 +11,14 @@ use std::fs::Files;
 use std::io::Stdin;
 use std::time::Clock;
 
-// What a mode asks for, or that there is no such mode.
-#[derive(Drop)]
-enum Mode {
-    Known(Asked),
-    Unknown,
-}
-
-// The mode with this name.
-fn mode_of(name: &[u8]) -> Mode {
-    if check::same(name, b"word") {
-        return Mode::Known(Asked::RecordWord);
+// What the mode with this name asks for, where there is one.
+fn mode_of(name: &[u8]) -> Option<Asked> {
+    match name {
+        b"word" => Some(Asked::RecordWord),
+        b"tree" => Some(Asked::RecordTree),
+        b"back" => Some(Asked::TreeRecord),
+        _ => None,
     }
-    if check::same(name, b"tree") {
-        return Mode::Known(Asked::RecordTree);
-    }
-    if check::same(name, b"back") {
-        return Mode::Known(Asked::TreeRecord);
-    }
-    Mode::Unknown
 }
 
 // Says on standard error that there is no such mode, which there are and, in the next line, what the program wants.
@@ -38,30 +26,6 @@ fn tell_modes(to: Streams, name: &[u8], usage: &[u8]) {
     output::say(to, name);
     output::say(to, b": not a mode; there are word, tree and back\n");
     output::say(to, usage);
-}
-
-// Answers the input under the table of a text.
-fn answer_under<R: Clock>(rt: &R, from: Stdin, to: Streams, asked: Asked, text: &[u8]) {
-    let mut frames = [0u8; layout::FRAMES];
-    let mut numbers = [0u64; layout::NUMBERS];
-    let opening = table::open(text, &mut frames, &mut numbers);
-    line_answers::answer_all(rt, from, to, asked, opening, &frames, &numbers);
-}
-
-// Reads the table text and answers.
-fn answer_file<R: Env + Files + Clock>(
-    rt: &R,
-    from: Stdin,
-    to: Streams,
-    asked: Asked,
-    usage: &[u8],
-) {
-    // One byte more than a text may have, so that a longer one is seen to be too long.
-    let mut text = [0u8; layout::TEXT + 1];
-    let Input::Bytes(n) = console::read_file(rt, to, 2, usage, &mut text) else {
-        return;
-    };
-    answer_under(rt, from, to, asked, output::front(&text, n));
 }
 
 // Answers in the mode with this name, or says which modes there are.
@@ -72,11 +36,11 @@ fn answer_named<R: Env + Files + Clock>(
     name: &[u8],
     usage: &[u8],
 ) {
-    let Mode::Known(asked) = mode_of(name) else {
+    let Some(asked) = mode_of(name) else {
         tell_modes(to, name, usage);
         return;
     };
-    answer_file(rt, from, to, asked, usage);
+    line_answers::answer_file(rt, from, to, 2, asked, usage);
 }
 
 // Answers in the mode that the first argument names.

@@ -15,6 +15,10 @@ pub last_begins : (ar : List ℕ) → last_symbol ar ≡ last_from 0 (drop 0 ar)
 unfolding last_symbol
 last_begins ar = refl
 
+-- Looking from the place where the symbols before the last end.
+pub last_left : (ar : List ℕ) (i j : ℕ) → j ≡ i → last_symbol ar ≡ last_from j (drop j ar) → last_symbol ar ≡ last_from i (drop i ar)
+last_left ar i j e l = l ∙ ap (λ (k : ℕ). last_from k (drop k ar)) e
+
 -- The symbols from i on, where one stands behind that at i.
 two_more : (ar : List ℕ) (i : ℕ) → i + 1 < length ar → drop i ar ≡ get_or ar i 0 ∷ get_or ar (suc i) 0 ∷ drop (suc (suc i)) ar
 two_more ar i h = drop-cons ar i 0 (omega arith) ∙ ap (λ (r : List ℕ). get_or ar i 0 ∷ r) (drop-cons ar (suc i) 0 (omega arith))

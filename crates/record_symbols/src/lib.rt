@@ -1,45 +1,36 @@
 // The last symbol of an opened table whose symbol list is one for records; or 20 at the first wrong index.
 #![tactic(auto)]
 
-ghost use Rattle.std.specs.Prelude.{◌≡◌};
-ghost use Rattle.words.specs.Reply.{refused};
+ghost use Rattle.std.specs.Prelude.{◌≡◌, Err};
+ghost use Rattle.words.specs.Reply.{no_at};
 ghost use Rattle.records.specs.Symbols.{last_symbol};
-ghost use Rattle.layout.specs.Layout.{Meant};
-ghost use Rattle.record_symbols.specs.LastTold.{last_told};
+ghost use Rattle.layout.specs.Lent.{Means};
 
+use layout::OpenTable;
 use words::No;
 
-// The last symbol, which means "absent", or the refusal.
-#[derive(Clone, Copy)]
-pub enum LastSymbol {
-    Last(u8),
-    Refused(No),
-}
-
 // 20 at symbol i.
-fn wrong_at(i: usize) -> LastSymbol
-    ensures { last_told result ≡ refused 20 i }
+fn wrong_at(i: usize) -> Result<u8, No>
+    ensures { result ≡ Err (no_at 20 i) }
 {
-    LastSymbol::Refused(No {
+    Err(No {
         number: 20,
         place: i,
     })
 }
 
 // The last symbol of an opened table, where all symbols before it have arity 2 and it has 0; or 20.
-pub fn last_symbol(frames: &[u8], numbers: &[u64]) -> LastSymbol
-    ensures { Meant frames.now numbers.now (λ M. last_told result ≡ last_symbol M.arities) }
+pub fn last_symbol(table: &OpenTable<'_>) -> Result<u8, No>
+    ensures { Means table.now (λ M. result ≡ last_symbol M.arities) }
 {
-    let symbols = layout::symbols(numbers);
-    let mut i: usize = 0;
-    while i + 1 < symbols {
-        if layout::arity(frames, i) != 2 {
+    let last = layout::symbols(table.numbers).saturating_sub(1);
+    for i in 0..last {
+        if layout::arity(table.frames, i) != 2 {
             return wrong_at(i);
         }
-        i += 1;
     }
-    if layout::arity(frames, i) != 0 {
-        return wrong_at(i);
+    if layout::arity(table.frames, last) != 0 {
+        return wrong_at(last);
     }
-    LastSymbol::Last(i as u8)
+    Ok(last as u8)
 }

@@ -20,9 +20,6 @@ use Rattle.records.specs.Calls.{spelled, tree_of}
 use Rattle.records.proofs.Sound.{read_sound}
 use Rattle.records.proofs.Symbols.{last_given}
 use Rattle.records.proofs.Counter.{stream_tree}
-use Rattle.image_levels.specs.declared.ImageLevels.{ImageLevels}
-use Rattle.image_levels.specs.declared.ImageLevels.TheVariants as levels
-use Rattle.image_levels.specs.LevelsTold.{levels_told}
 use Rattle.read_record.specs.RecordRead.{ReadUnder}
 
 -- ff in place of ff changes nothing.
@@ -44,10 +41,10 @@ kept_given (given t) e = (t, refl)
 kept_given (refusal y) e = absurd (given_refused tt y.number y.place e)
 
 -- What counting the levels along a stream promises.
-abbrev LevelsCounted : List ℕ → ImageLevels → Type 0
+abbrev LevelsCounted : List ℕ → Reply (Unit {0}) → Type 0
 LevelsCounted s k =
     (ar : List ℕ) (a : ℕ) (r : Element) → RecordSymbols ar a → Labels a r → a ≤ close → s ≡ map (spell close) (bytes_of r) → length s < tree_most
-    → levels_told k ≡ mapped (λ t. tt {0}) (read_tree ar (preorder (image a r)))
+    → k ≡ mapped (λ t. tt {0}) (read_tree ar (preorder (image a r)))
 
 module _ {ar s : List ℕ} {a : ℕ} (m : a ≤ 255) (u : ReadUnder ar s a) where
   -- The image of the record, spelled out.
@@ -56,22 +53,22 @@ module _ {ar s : List ℕ} {a : ℕ} (m : a ≤ 255) (u : ReadUnder ar s a) wher
   image_spelled = rw (u.symbols, u.read)
 
   -- What is told of the image as a tree.
-  image_told_lem : (k : ImageLevels) → LevelsCounted s k → levels_told k ≡ mapped (λ t. tt {0}) (read_tree ar (preorder (image a u.element)))
+  image_told_lem : (k : Reply (Unit {0})) → LevelsCounted s k → k ≡ mapped (λ t. tt {0}) (read_tree ar (preorder (image a u.element)))
   image_told_lem k h =
       let i = read_sound a s u.element u.read in
       h ar a u.element ((last_given ar a).0 u.symbols) i.1 m (i.0 ∙ spell_close (bytes_of u.element)) u.few
 
   -- 10, where the image has too many levels.
-  pub tree_deeper : (p : ℕ) (k : ImageLevels) → LevelsCounted s k → k ≡ levels.Deeper p → tree_of ar s ≡ refused 10 p
+  pub tree_deeper : (x : No) (k : Reply (Unit {0})) → LevelsCounted s k → k ≡ refusal x → tree_of ar s ≡ refusal x
   unfolding tree_of
-  tree_deeper p k h e =
-      rw (image_spelled, kept_refused (read_tree ar (preorder (image a u.element))) (sym (ap levels_told e) ∙ image_told_lem k h))
+  tree_deeper x k h e =
+      rw (image_spelled, kept_refused (read_tree ar (preorder (image a u.element))) (sym e ∙ image_told_lem k h))
 
   -- The tree bytes, where it has not.
-  pub tree_fits : (k : ImageLevels) → LevelsCounted s k → k ≡ levels.Fit → tree_of ar s ≡ given (map (spell a) s ++ a ∷ [])
+  pub tree_fits : (k : Reply (Unit {0})) → LevelsCounted s k → k ≡ given tt → tree_of ar s ≡ given (map (spell a) s ++ a ∷ [])
   unfolding tree_of
   tree_fits k h e =
-      rw (image_spelled, (kept_given (read_tree ar (preorder (image a u.element))) (sym (ap levels_told e) ∙ image_told_lem k h)).1)
+      rw (image_spelled, (kept_given (read_tree ar (preorder (image a u.element))) (sym e ∙ image_told_lem k h)).1)
       (ap (λ (z : List ℕ). given z) (stream_tree a s u.element m u.read))
 
 -- A refusal of the spelling or of the tree is the answer.

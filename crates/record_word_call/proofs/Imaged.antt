@@ -15,14 +15,11 @@ use Rattle.records.specs.Records.{spell}
 use Rattle.records.specs.Calls.{spelled}
 use Rattle.records.proofs.Symbols.{last_length}
 use Rattle.records.proofs.Counter.{stream_tree}
-use Rattle.read_record.specs.declared.Reading.{Reading}
-use Rattle.read_record.specs.declared.Reading.TheVariants as reading
 use Rattle.read_record.specs.RecordRead.{ReadUnder, RecordRead, FewRead}
 use Rattle.promises.specs.Room.{into}
 use Rattle.promises.specs.Word.{word_in, word_on, word_into}
 use Rattle.promises.specs.Records.{word_of_record, on_table}
-use Rattle.why_no_word.specs.declared.WordAnswer.{WordAnswer}
-use Rattle.why_no_word.specs.declared.WordAnswer.TheVariants as found
+use Rattle.why_no_word.specs.declared.Letters.{Letters}
 use Rattle.why_no_word.specs.Answer.{Answers}
 use Rattle.why_no_word.proofs.Said.{refused_said}
 
@@ -35,12 +32,12 @@ image_front s T T' a e =
     ap (take (length s + 1)) (e ∙ sym (append_snoc xs a rest)) ∙ take_at (xs ++ a ∷ []) rest (length s + 1) n
 
 -- The word of those bytes is the word of the image.
-pub front_answers : (M : Table) (s T T' R R' : List ℕ) (a : ℕ) (r : WordAnswer) → T' ≡ map (spell a) s ++ a ∷ drop (suc (length s)) T
+pub front_answers : (M : Table) (s T T' R R' : List ℕ) (a : ℕ) (r : Reply Letters) → T' ≡ map (spell a) s ++ a ∷ drop (suc (length s)) T
     → Answers (word_into M (take (length s + 1) T') (length R)) R R' r → Answers (word_into M (map (spell a) s ++ a ∷ []) (length R)) R R' r
 front_answers M s T T' R R' a r e = subst (λ (bs : List ℕ). Answers (word_into M bs (length R)) R R' r) (image_front s T T' a e)
 
 -- A stream that was read is short enough for its image.
-pub read_few : (s : List ℕ) (r : Reading) (a : ℕ) → FewRead s r → r ≡ reading.Record a → length s < tree_most
+pub read_few : (s : List ℕ) (r : Reply ℕ) (a : ℕ) → FewRead s r → r ≡ given a → length s < tree_most
 read_few s r a h e = subst (FewRead s) e h
 
 -- A refusal of what comes first is the refusal of what comes after it.
@@ -55,16 +52,17 @@ record_spelled ar s a few h =
     let m : a ≤ 255 = omega (arith, last_length ar a h.symbols) in
     rw (h.symbols, h.read, stream_tree a s h.element m h.read)
 
-module _ (M : Table) (s : List ℕ) (r : Reading) (read : RecordRead M.arities s r) where
+module _ (M : Table) (s : List ℕ) (r : Reply ℕ) (read : RecordRead M.arities s r) where
   -- A refusal of the stream, or of its image as a tree, is the answer.
-  pub refused_record : (R : List ℕ) (x : No) → r ≡ reading.Refused x → Answers (on_table word_of_record M s (length R)) R R (found.Refused x)
+  pub refused_record : (R : List ℕ) (x : No) → r ≡ refusal x → {w : Reply Letters} → w ≡ refusal x
+      → Answers (on_table word_of_record M s (length R)) R R w
   unfolding word_of_record word_on
-  refused_record R x e =
+  refused_record R x e f =
       let n = subst (RecordRead M.arities s) e read in
-      refused_said R x.number x.place (ap (into (length R)) (then_handed (spelled M.arities s) (read_tree M.arities) (word_in M) x n)) refl
+      refused_said R x.number x.place (ap (into (length R)) (then_handed (spelled M.arities s) (read_tree M.arities) (word_in M) x n)) f
 
   -- The answer for a record that was read is that for the tree bytes of its image.
-  pub record_answers : (R R' : List ℕ) (w : WordAnswer) (a : ℕ) → r ≡ reading.Record a → length M.arities ≤ symbols_most
+  pub record_answers : (R R' : List ℕ) (w : Reply Letters) (a : ℕ) → r ≡ given a → length M.arities ≤ symbols_most
       → Answers (word_into M (map (spell a) s ++ a ∷ []) (length R)) R R' w → Answers (on_table word_of_record M s (length R)) R R' w
   unfolding word_of_record word_into
   record_answers R R' w a e few h =

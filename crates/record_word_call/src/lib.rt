@@ -8,8 +8,11 @@ ghost use Rattle.promises.specs.Word.{word_into};
 ghost use Rattle.promises.specs.Records.{word_of_record, on_table};
 ghost use Rattle.why_no_word.specs.Answer.{Answers};
 
-use read_record::Reading;
-use why_no_word::WordAnswer;
+use layout::OpenTable;
+use why_no_word::Letters;
+use words::No;
+
+// Bytes and numbers stay two arrays here, as C lends them: `word_call` asks for them so.
 
 // The word of the image of a stream's record, which is spelled out in `tree`: the word of its tree bytes.
 fn find_image(
@@ -20,7 +23,7 @@ fn find_image(
     tree: &mut [u8],
     plan: &mut [u32; layout::TREE],
     room: &mut [u8],
-) -> WordAnswer
+) -> Result<Letters, No>
     requires { length stream.now < length tree.old }
     ensures { Meant frames.now numbers.now
         (λ M. Answers (word_into M (map (spell last) stream.now ++ last ∷ []) (length room.old))
@@ -39,12 +42,10 @@ pub fn find(
     tree: &mut [u8; layout::TREE],
     plan: &mut [u32; layout::TREE],
     room: &mut [u8],
-) -> WordAnswer
+) -> Result<Letters, No>
     ensures { Meant frames.now numbers.now
         (λ M. Answers (on_table word_of_record M stream.now (length room.old)) room.old room.new result) }
 {
-    match read_record::read(frames, numbers, stream) {
-        Reading::Refused(no) => WordAnswer::Refused(no),
-        Reading::Record(last) => find_image(frames, numbers, stream, last, tree, plan, room),
-    }
+    let last = read_record::read(&OpenTable { frames, numbers }, stream)?;
+    find_image(frames, numbers, stream, last, tree, plan, room)
 }

@@ -60,7 +60,8 @@ opening_onward (ended r) a l p s' m e = absurd (given_refused s' 23 p (sym e))
 pub step_onward : (a : ℕ) (s : StreamStage) (p b : ℕ) (s' : StreamStage) → step a s p b ≡ given s' → StageOnward a s b s'
 step_onward a s p b s' e = go (eqb b close) refl e
   where
-    go : (t : Bool) → eqb b close ≡ t → elim t [ true ↦ closing s p | false ↦ refuse_if (not (ltb b a)) 21 p (opening b s p) ] ≡ given s' → StageOnward a s b s'
+    go : (t : Bool) → eqb b close ≡ t → ◌≡◌ {A = Reply StreamStage} (elim t [ true ↦ closing s p | false ↦ refuse_if (not (ltb b a)) 21 p (opening b s p) ])
+        (given s') → StageOnward a s b s'
     go true i k = subst (λ (z : ℕ). StageOnward a s z s') (sym (eqb-true b close i)) (closing_onward s a p s' k)
     go false i k =
         let j = refuse_given (not (ltb b a)) 21 p (opening b s p) s' k in

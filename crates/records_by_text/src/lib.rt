@@ -6,50 +6,50 @@ ghost use Rattle.promises.specs.Records.{word_of_record, tree_of_record, record_
 ghost use Rattle.why_no_word.specs.Answer.{Answers};
 ghost use Rattle.spelling.specs.Spells.{Spells};
 
-use spelling::Spelled;
-use table::Opening;
-use why_no_word::WordAnswer;
+use layout::OpenTable;
+use why_no_word::Letters;
+use words::No;
 
 // The word of a record under a table text, written to the front of the room; or the refusal, and the room as it was.
-pub fn record_word(text: &[u8], stream: &[u8], room: &mut [u8]) -> WordAnswer
+pub fn record_word(text: &[u8], stream: &[u8], room: &mut [u8]) -> Result<Letters, No>
     ensures { Answers (on_text word_of_record text.now stream.now (length room.old))
         room.old room.new result }
 {
     let mut frames = [0u8; layout::FRAMES];
     let mut numbers = [0u64; layout::NUMBERS];
-    match table::read(text, &mut frames, &mut numbers) {
-        Opening::Refused(no) => WordAnswer::Refused(no),
-        Opening::Table => {
-            let mut tree = [0u8; layout::TREE];
-            let mut plan = [0u32; layout::TREE];
-            record_word_call::find(&frames, &numbers, stream, &mut tree, &mut plan, room)
-        }
-    }
+    table::read(text, &mut frames, &mut numbers)?;
+    let mut tree = [0u8; layout::TREE];
+    let mut plan = [0u32; layout::TREE];
+    record_word_call::find(&frames, &numbers, stream, &mut tree, &mut plan, room)
 }
 
 // The tree bytes of a record under a table text, written to the front of the room; or the refusal, and the room as it was.
-pub fn record_tree(text: &[u8], stream: &[u8], room: &mut [u8]) -> Spelled
+pub fn record_tree(text: &[u8], stream: &[u8], room: &mut [u8]) -> Result<usize, No>
     ensures { Spells (on_text tree_of_record text.now stream.now (length room.old))
         room.old room.new result }
 {
     let mut frames = [0u8; layout::FRAMES];
     let mut numbers = [0u64; layout::NUMBERS];
-    match table::read(text, &mut frames, &mut numbers) {
-        Opening::Refused(no) => Spelled::Refused(no),
-        Opening::Table => record_tree_call::tree(&frames, &numbers, stream, room),
-    }
+    table::read(text, &mut frames, &mut numbers)?;
+    let table = OpenTable {
+        frames: &frames,
+        numbers: &numbers,
+    };
+    record_tree_call::tree(&table, stream, room)
 }
 
 // The stream of the record of which tree bytes are the image, under a table text, written to the front of the room; or the refusal, and
 // the room as it was.
-pub fn tree_record(text: &[u8], tree: &[u8], room: &mut [u8]) -> Spelled
+pub fn tree_record(text: &[u8], tree: &[u8], room: &mut [u8]) -> Result<usize, No>
     ensures { Spells (on_text record_of_tree text.now tree.now (length room.old))
         room.old room.new result }
 {
     let mut frames = [0u8; layout::FRAMES];
     let mut numbers = [0u64; layout::NUMBERS];
-    match table::read(text, &mut frames, &mut numbers) {
-        Opening::Refused(no) => Spelled::Refused(no),
-        Opening::Table => tree_record_call::record(&frames, &numbers, tree, room),
-    }
+    table::read(text, &mut frames, &mut numbers)?;
+    let table = OpenTable {
+        frames: &frames,
+        numbers: &numbers,
+    };
+    tree_record_call::record(&table, tree, room)
 }

@@ -11,7 +11,7 @@ use lib.ListN.{length, take, drop}
 use lib.Seq.{take-append_seam}
 use Rattle.words.specs.declared.No.{No}
 use Rattle.words.specs.Word.{terms}
-use Rattle.words.specs.Reply.{Reply, given, refusal, refused, ◌then◌}
+use Rattle.words.specs.Reply.{Reply, given, refusal, refused, ◌then◌, mapped}
 use Rattle.words.proofs.Replies.{given_injective, given_refused, refusal_injective}
 use Rattle.words.specs.Told.{Told}
 use Rattle.machine.specs.Machine.{Tree, Table}
@@ -24,71 +24,64 @@ use Rattle.promises.specs.Room.{into}
 use Rattle.promises.specs.Word.{word_in, word_on, word_into}
 use Rattle.promises.specs.Records.{word_of_record, tree_of_record, record_of_tree}
 use Rattle.layout.specs.Layout.{Meant}
-use Rattle.why_no_word.specs.Answer.{said, Answers}
-use Rattle.why_no_word.specs.declared.WordAnswer.{WordAnswer}
-use Rattle.why_no_word.specs.declared.WordAnswer.TheVariants as found
+use Rattle.why_no_word.specs.Answer.{counts_of, Answers}
 use Rattle.why_no_word.specs.declared.Letters.{Letters}
-use Rattle.spelling.specs.Spells.{spelled_told, Spells}
-use Rattle.spelling.specs.declared.Spelled.{Spelled}
-use Rattle.spelling.specs.declared.Spelled.TheVariants as spelled
+use Rattle.spelling.specs.Spells.{Spells}
 use Rattle.table.specs.Opening.{Opens}
-use Rattle.table.specs.declared.Opening.{Opening}
-use Rattle.table.specs.declared.Opening.TheVariants as opening
 use Rattle.long_line.specs.Held.{SomeBytes, AllOrLong}
-use Rattle.output.specs.Queue.{Queued}
+use Rattle.output.specs.Queue.{Waiting, TextPut}
 use Rattle.answers.specs.Lines.{word_line, bytes_line}
 use Rattle.respond.specs.Response.{of_stream, reply_to, letters_line, given_line, Responds, not_hex, Answered, line_answer}
 use Rattle.respond.specs.declared.Asked.{Asked}
 use Rattle.respond.specs.declared.Asked.TheVariants as asked
-use Rattle.respond.specs.declared.Said.{Said}
 
 -- A word that was found: its line is that of its letters in the room.
-pub word_responds : (a : Reply (List ℕ)) (R R' O O' v : List ℕ) (f : WordAnswer) (l : Letters) (u k : ℕ) → f ≡ found.Found l → Answers a R R' f
-    → v ≡ take l.length R' → Queued (word_line l.terms v) O u O' k → Responds letters_line a O u O' (record { used = k; counted = 0 })
-word_responds (given w) R R' O O' v f l u k i h d q =
-    let g = given_injective _ _ (sym (ap said i) ∙ h.answer) in
+pub word_responds : (a : Reply (List ℕ)) (R R' : List ℕ) (O O' : Waiting) (v : List ℕ) (f : Reply Letters) (l : Letters) → f ≡ given l → Answers a R R' f
+    → v ≡ take l.length R' → TextPut (word_line l.terms v) O O' → Responds letters_line a O O' 0
+word_responds (given w) R R' O O' v f l i h d q =
+    let g = given_injective _ _ (sym (ap (mapped counts_of) i) ∙ h.answer) in
     let e : l.length ≡ length w = ap (λ x. x.length) g in
     let t : l.terms ≡ terms w = ap (λ x. x.terms) g in
     let s : v ≡ w = d ∙ ap (λ (j : ℕ). take j R') e ∙ ap (take (length w)) h.room ∙ take-append_seam w (drop (length w) R) in
-    record { line = subst (λ (x : List ℕ). Queued x O u O' k) (ap (word_line l.terms) s ∙ ap (λ (j : ℕ). word_line j w) t) q; counted = refl }
-word_responds (refusal x) R R' O O' v f l u k i h d q = absurd (given_refused _ x.number x.place (sym (ap said i) ∙ h.answer))
+    record { line = subst (λ (x : List ℕ). TextPut x O O') (ap (word_line l.terms) s ∙ ap (λ (j : ℕ). word_line j w) t) q; counted = refl }
+word_responds (refusal x) R R' O O' v f l i h d q = absurd (given_refused _ x.number x.place (sym (ap (mapped counts_of) i) ∙ h.answer))
 
 -- A refusal of such a call.
-pub refusal_responds : (a : Reply (List ℕ)) (R R' O O' : List ℕ) (f : WordAnswer) (e : No) (u : ℕ) (r : Said) → f ≡ found.Refused e
+pub refusal_responds : (a : Reply (List ℕ)) (R R' : List ℕ) (O O' : Waiting) (f : Reply Letters) (e : No) (r : ℕ) → f ≡ refusal e
     → Answers a R R' f
-    → ((text : List ℕ → List ℕ) → Responds text (refusal e) O u O' r) → Responds letters_line a O u O' r
-refusal_responds (given w) R R' O O' f e u r i h q = absurd (given_refused _ e.number e.place (sym h.answer ∙ ap said i))
-refusal_responds (refusal x) R R' O O' f e u r i h q =
-    subst (λ (y : No). Responds letters_line (refusal y) O u O' r) (refusal_injective _ _ (sym (ap said i) ∙ h.answer)) (q letters_line)
+    → ((text : List ℕ → List ℕ) → Responds text (refusal e) O O' r) → Responds letters_line a O O' r
+refusal_responds (given w) R R' O O' f e r i h q = absurd (given_refused _ e.number e.place (sym h.answer ∙ ap (mapped counts_of) i))
+refusal_responds (refusal x) R R' O O' f e r i h q =
+    subst (λ (y : No). Responds letters_line (refusal y) O O' r) (refusal_injective _ _ (sym (ap (mapped counts_of) i) ∙ h.answer)) (q letters_line)
 
 -- Bytes that were written to the front of the room, behind their name.
-pub bytes_respond : (name : List ℕ) (a : Reply (List ℕ)) (R R' O O' v : List ℕ) (f : Spelled) (n u k : ℕ) → f ≡ spelled.Bytes n → Spells a R R' f
-    → v ≡ take n R' → Queued (bytes_line name v) O u O' k → Responds (bytes_line name) a O u O' (record { used = k; counted = 0 })
-bytes_respond name (given w) R R' O O' v f n u k i h d q =
-    let e : n ≡ length w = given_injective _ _ (sym (ap spelled_told i) ∙ h.answer) in
+pub bytes_respond : (name : List ℕ) (a : Reply (List ℕ)) (R R' : List ℕ) (O O' : Waiting) (v : List ℕ) (f : Reply ℕ) (n : ℕ) → f ≡ given n
+    → Spells a R R' f → v ≡ take n R' → TextPut (bytes_line name v) O O' → Responds (bytes_line name) a O O' 0
+bytes_respond name (given w) R R' O O' v f n i h d q =
+    let e : n ≡ length w = given_injective _ _ (sym i ∙ h.answer) in
     let s : v ≡ w = d ∙ ap (λ (j : ℕ). take j R') e ∙ ap (take (length w)) h.room ∙ take-append_seam w (drop (length w) R) in
-    record { line = subst (λ (x : List ℕ). Queued x O u O' k) (ap (bytes_line name) s) q; counted = refl }
-bytes_respond name (refusal x) R R' O O' v f n u k i h d q =
-    absurd (given_refused _ x.number x.place (sym (ap spelled_told i) ∙ h.answer))
+    record { line = subst (λ (x : List ℕ). TextPut x O O') (ap (bytes_line name) s) q; counted = refl }
+bytes_respond name (refusal x) R R' O O' v f n i h d q =
+    absurd (given_refused _ x.number x.place (sym i ∙ h.answer))
 
 -- A refusal of such a call.
-pub bytes_refused : (name : List ℕ) (a : Reply (List ℕ)) (R R' O O' : List ℕ) (f : Spelled) (e : No) (u : ℕ) (r : Said) → f ≡ spelled.Refused e
+pub bytes_refused : (name : List ℕ) (a : Reply (List ℕ)) (R R' : List ℕ) (O O' : Waiting) (f : Reply ℕ) (e : No) (r : ℕ) → f ≡ refusal e
     → Spells a R R' f
-    → ((text : List ℕ → List ℕ) → Responds text (refusal e) O u O' r) → Responds (bytes_line name) a O u O' r
-bytes_refused name (given w) R R' O O' f e u r i h q = absurd (given_refused _ e.number e.place (sym h.answer ∙ ap spelled_told i))
-bytes_refused name (refusal x) R R' O O' f e u r i h q =
-    subst (λ (y : No). Responds (bytes_line name) (refusal y) O u O' r) (refusal_injective _ _ (sym (ap spelled_told i) ∙ h.answer)) (q (bytes_line name))
+    → ((text : List ℕ → List ℕ) → Responds text (refusal e) O O' r) → Responds (bytes_line name) a O O' r
+bytes_refused name (given w) R R' O O' f e r i h q = absurd (given_refused _ e.number e.place (sym h.answer ∙ i))
+bytes_refused name (refusal x) R R' O O' f e r i h q =
+    subst (λ (y : No). Responds (bytes_line name) (refusal y) O O' r) (refusal_injective _ _ (sym i ∙ h.answer)) (q (bytes_line name))
 
 -- The same answer, said otherwise.
-pub responds_as : {text : List ℕ → List ℕ} {a b : Reply (List ℕ)} {O O' : List ℕ} {u : ℕ} {r : Said} → a ≡ b → Responds text a O u O' r
-    → Responds text b O u O' r
-responds_as {text} {a} {b} {O} {O'} {u} {r} e q = subst (λ (z : Reply (List ℕ)). Responds text z O u O' r) e q
+pub responds_as : {text : List ℕ → List ℕ} {a b : Reply (List ℕ)} {O O' : Waiting} {r : ℕ} → a ≡ b → Responds text a O O' r
+    → Responds text b O O' r
+responds_as {text} {a} {b} {O} {O'} {r} e q = subst (λ (z : Reply (List ℕ)). Responds text z O O' r) e q
 
 -- What is asked for, in its case.
-pub asked_as : (M : Table) (bs : List ℕ) (room : ℕ) {k j : Asked} {O O' : List ℕ} {u : ℕ} {r : Said} → k ≡ j
-    → Responds (given_line j) (reply_to j M bs room) O u O' r
-    → Responds (given_line k) (reply_to k M bs room) O u O' r
-asked_as M bs room {k} {j} {O} {O'} {u} {r} e q = subst (λ (i : Asked). Responds (given_line i) (reply_to i M bs room) O u O' r) (sym e) q
+pub asked_as : (M : Table) (bs : List ℕ) (room : ℕ) {k j : Asked} {O O' : Waiting} {r : ℕ} → k ≡ j
+    → Responds (given_line j) (reply_to j M bs room) O O' r
+    → Responds (given_line k) (reply_to k M bs room) O O' r
+asked_as M bs room {k} {j} {O} {O'} {r} e q = subst (λ (i : Asked). Responds (given_line i) (reply_to i M bs room) O O' r) (sym e) q
 
 -- ---- bytes that are too many for a tree
 
@@ -165,41 +158,41 @@ stream_refused asked.TreeRecord M s room x e f = absurd (true≢false (sym e))
 -- ---- lines
 
 -- A line that is not hexadecimal.
-pub strange_answered : (k : Asked) (cs O O' : List ℕ) (t : Reply Table) (b : Bool) (room u n : ℕ) → Told (SomeBytes cs) b → b ≡ false
-    → Queued not_hex O u O' n → Answered k t (bytes_of cs) room O u O' (record { used = n; counted = 25 })
-strange_answered k cs O O' t b room u n told e q = go (bytes_of cs) refl
+pub strange_answered : (k : Asked) (cs : List ℕ) (O O' : Waiting) (t : Reply Table) (b : Bool) (room : ℕ) → Told (SomeBytes cs) b → b ≡ false
+    → TextPut not_hex O O' → Answered k t (bytes_of cs) room O O' 25
+strange_answered k cs O O' t b room told e q = go (bytes_of cs) refl
   where
-    go : (o : Option (List ℕ)) → bytes_of cs ≡ o → Answered k t o room O u O' (record { used = n; counted = 25 })
+    go : (o : Option (List ℕ)) → bytes_of cs ≡ o → Answered k t o room O O' 25
     go none f = record { line = q; counted = refl }
     go (some bs) f = absurd (told.if_false e (bs, f))
 
 -- A line of hexadecimal under an opened table.
-pub table_answered : (k : Asked) (cs F I O O' : List ℕ) (t : Reply Table) (o : Opening) (b : Bool) (room u : ℕ) (r : Said) → o ≡ opening.Table
+pub table_answered : (k : Asked) (cs F I : List ℕ) (O O' : Waiting) (t : Reply Table) (o : Reply (Unit {0})) (b : Bool) (room : ℕ) (r : ℕ) → o ≡ (given tt)
     → Opens F I t o → Told (SomeBytes cs) b → b ≡ true
-    → ((bs : List ℕ) → bytes_of cs ≡ some bs → Meant F I (λ M. Responds (given_line k) (reply_to k M bs room) O u O' r))
-    → Answered k t (bytes_of cs) room O u O' r
-table_answered k cs F I O O' t o b room u r i s told e f = go t (subst (Opens F I t) i s) (told.if_true e)
+    → ((bs : List ℕ) → bytes_of cs ≡ some bs → Meant F I (λ M. Responds (given_line k) (reply_to k M bs room) O O' r))
+    → Answered k t (bytes_of cs) room O O' r
+table_answered k cs F I O O' t o b room r i s told e f = go t (subst (Opens F I t) i s) (told.if_true e)
   where
-    go : (t : Reply Table) → Opens F I t opening.Table → SomeBytes cs → Answered k t (bytes_of cs) room O u O' r
+    go : (t : Reply Table) → Opens F I t (given tt) → SomeBytes cs → Answered k t (bytes_of cs) room O O' r
     go (given M) p w = rw w.1 (f w.0 w.1 M p)
     go (refusal x) p w = absurd p
 
 -- A line of hexadecimal under a table that was refused.
-pub refused_answered : (k : Asked) (cs F I O O' : List ℕ) (t : Reply Table) (o : Opening) (e : No) (b : Bool) (room u : ℕ) (r : Said)
-    → o ≡ opening.Refused e → Opens F I t o → Told (SomeBytes cs) b → b ≡ true
-    → ((text : List ℕ → List ℕ) → Responds text (refusal e) O u O' r) → Answered k t (bytes_of cs) room O u O' r
-refused_answered k cs F I O O' t o e b room u r i s told y q = go t (subst (Opens F I t) i s) (told.if_true y)
+pub refused_answered : (k : Asked) (cs F I : List ℕ) (O O' : Waiting) (t : Reply Table) (o : Reply (Unit {0})) (e : No) (b : Bool) (room : ℕ) (r : ℕ)
+    → o ≡ refusal e → Opens F I t o → Told (SomeBytes cs) b → b ≡ true
+    → ((text : List ℕ → List ℕ) → Responds text (refusal e) O O' r) → Answered k t (bytes_of cs) room O O' r
+refused_answered k cs F I O O' t o e b room r i s told y q = go t (subst (Opens F I t) i s) (told.if_true y)
   where
-    go : (t : Reply Table) → Opens F I t (opening.Refused e) → SomeBytes cs → Answered k t (bytes_of cs) room O u O' r
+    go : (t : Reply Table) → Opens F I t (refusal e) → SomeBytes cs → Answered k t (bytes_of cs) room O O' r
     go (given M) p w = absurd p
-    go (refusal x) d w = rw w.1 (subst (λ (y : No). Responds (given_line k) (refusal y) O u O' r) d (q (given_line k)))
+    go (refusal x) d w = rw w.1 (subst (λ (y : No). Responds (given_line k) (refusal y) O O' r) d (q (given_line k)))
 
 -- What was put for a line is its answer.
-pub answered_line : (k : Asked) (t : Reply Table) (room u : ℕ) (cs O O' : List ℕ) (s : Said) → Answered k t (bytes_of cs) room O u O' s
-    → Queued (line_answer k t room cs) O u O' s.used
+pub answered_line : (k : Asked) (t : Reply Table) (room : ℕ) (cs : List ℕ) (O O' : Waiting) (s : ℕ) → Answered k t (bytes_of cs) room O O' s
+    → TextPut (line_answer k t room cs) O O'
 unfolding line_answer
-answered_line k t room u cs O O' s a = go (bytes_of cs) refl a
+answered_line k t room cs O O' s a = go (bytes_of cs) refl a
   where
-    go : (o : Option (List ℕ)) → bytes_of cs ≡ o → Answered k t o room O u O' s → Queued (line_answer k t room cs) O u O' s.used
+    go : (o : Option (List ℕ)) → bytes_of cs ≡ o → Answered k t o room O O' s → TextPut (line_answer k t room cs) O O'
     go none e b = rw (e, line_answer) b.line
     go (some bs) e b = rw (e, line_answer) b.line

@@ -1,5 +1,6 @@
 -- The line that answers a line of hexadecimal, and where it is counted. Definitions only.
-use Rattle.std.specs.Prelude.{◌≡◌, Bool, true, false, List, [], ◌∷◌, ℕ}
+use Rattle.std.specs.Prelude.{◌≡◌, Bool, true, false, List, [], ◌∷◌, ℕ, length}
+use Rattle.std.specs.Borrow.{MutBor}
 use Rattle.std.proofs.Math.Option.{Option, none, some}
 use Rattle.words.specs.Word.{terms}
 use Rattle.words.specs.Reply.{Reply, given, refusal, ◌then◌}
@@ -7,11 +8,14 @@ use Rattle.machine.specs.Machine.{Table}
 use Rattle.text.specs.Lines.{bytes_of}
 use Rattle.promises.specs.Word.{word_into}
 use Rattle.promises.specs.Records.{word_of_record, tree_of_record, record_of_tree, on_table}
-use Rattle.output.specs.Queue.{Queued}
+use Rattle.output.specs.Queue.{Waiting, TextPut}
 use Rattle.answers.specs.Lines.{word_line, bytes_line, no_line}
 use Rattle.respond.specs.declared.Asked.{Asked}
 use Rattle.respond.specs.declared.Asked.TheVariants as asked
-use Rattle.respond.specs.declared.Said.{Said}
+
+-- A lent room is still the same, and as long.
+abbrev pub SameRoom : MutBor (List ℕ) → MutBor (List ℕ) → Type 0
+SameRoom room room' = (room'.ghost_name ≡ room.ghost_name) × (length room'.now ≡ length room.now)
 
 -- Whether the bytes are a record's stream.
 abbrev pub of_stream : Asked → Bool
@@ -56,23 +60,23 @@ counted_at (given w) = 0
 counted_at (refusal x) = x.number
 
 -- The answer a was put as a line, and is counted in its place.
-pub record Responds (text : List ℕ → List ℕ) (a : Reply (List ℕ)) (O : List ℕ) (used : ℕ) (O' : List ℕ) (r : Said) : Type 0 where
-  pub line : Queued (answer_line text a) O used O' r.used
-  pub counted : r.counted ≡ counted_at a
+pub record Responds (text : List ℕ → List ℕ) (a : Reply (List ℕ)) (O O' : Waiting) (counted_as : ℕ) : Type 0 where
+  pub line : TextPut (answer_line text a) O O'
+  pub counted : counted_as ≡ counted_at a
 
 -- "not hex", and a line feed.
 abbrev pub not_hex : List ℕ
 not_hex = 0x6e ∷ 0x6f ∷ 0x74 ∷ 0x20 ∷ 0x68 ∷ 0x65 ∷ 0x78 ∷ 0x0a ∷ []
 
 -- That was put for a line that is not hexadecimal, and is counted at 25.
-pub record Strange (O : List ℕ) (used : ℕ) (O' : List ℕ) (r : Said) : Type 0 where
-  pub line : Queued not_hex O used O' r.used
-  pub counted : r.counted ≡ 25
+pub record Strange (O O' : Waiting) (counted_as : ℕ) : Type 0 where
+  pub line : TextPut not_hex O O'
+  pub counted : counted_as ≡ 25
 
 -- The answer to a line with these bytes, or none: not hexadecimal first, then the table's refusal, then the call's answer.
-abbrev pub Answered : Asked → Reply Table → Option (List ℕ) → ℕ → List ℕ → ℕ → List ℕ → Said → Type 0
-Answered k t none room O used O' r = Strange O used O' r
-Answered k t (some bs) room O used O' r = Responds (given_line k) (t then λ M. reply_to k M bs room) O used O' r
+abbrev pub Answered : Asked → Reply Table → Option (List ℕ) → ℕ → Waiting → Waiting → ℕ → Type 0
+Answered k t none room O O' r = Strange O O' r
+Answered k t (some bs) room O O' r = Responds (given_line k) (t then λ M. reply_to k M bs room) O O' r
 
 -- The line that answers a line of these characters.
 unfoldable pub line_answer : Asked → Reply Table → ℕ → List ℕ → List ℕ

@@ -14,13 +14,12 @@ ghost use Rattle.spelling.specs.Spells.{Spells};
 ghost use Rattle.table.specs.Opening.{Opens};
 ghost use Rattle.long_line.specs.Held.{count_most, LongHeld};
 ghost use Rattle.answers.specs.Lines.{bytes_line};
-ghost use Rattle.respond.specs.Response.{of_stream, reply_to, letters_line, given_line, Responds, Answered};
+ghost use Rattle.respond.specs.Response.{of_stream, reply_to, letters_line, given_line, SameRoom, Responds, Answered};
 
+use layout::OpenTable;
 use long_line::LongLine;
-use output::Streams;
-use spelling::Spelled;
-use table::Opening;
-use why_no_word::WordAnswer;
+use output::Out;
+use why_no_word::Letters;
 use words::No;
 
 // What is asked of a line's bytes: a tree's word; a record's word, or its tree; a tree's record.
@@ -32,97 +31,63 @@ pub enum Asked {
     TreeRecord,
 }
 
-// Where an answer is counted: what was asked for at 0, a refusal at its number, a line that is not
-// hexadecimal here.
-pub const STRANGE: usize = 25;
-
-// How many bytes wait to be written, and where the answer is counted.
+// What is asked of each line, and the table under which: what its opening answered, and its memory.
 #[derive(Clone, Copy)]
-pub struct Said {
-    pub used: usize,
-    pub counted: usize,
+pub struct Question<'a> {
+    pub asked: Asked,
+    pub opening: Result<(), No>,
+    pub frames: &'a [u8; layout::FRAMES],
+    pub numbers: &'a [u64; layout::NUMBERS],
 }
 
-// A refusal: its number and place.
-fn refused(to: Streams, no: No, out: &mut [u8], used: usize) -> Said
-    ensures { (text : List ℕ → List ℕ) → Responds text (Reply·refusal no) out.old used out.new result }
+// Memory lent for the answers. What `image` and `plan` hold before and after says nothing.
+#[derive(Drop)]
+pub struct Scratch<'a> {
+    pub image: &'a mut [u8; layout::TREE],
+    pub plan: &'a mut [u32; layout::TREE],
+    pub room: &'a mut [u8],
+}
+
+// Where an answer is counted: what was asked for at 0, a refusal at its number, a line that is not hexadecimal here.
+// A number and no enum, since `Responds` and `Strange` of the specs say it, and the counts are lent as a slice of any length.
+pub const STRANGE: usize = 25;
+
+// A refusal: its number and place. Answers where it is counted, as all these do.
+fn refused(no: No, out: &mut Out) -> usize
+    ensures { (text : List ℕ → List ℕ) → Responds text (Reply·refusal no) out.old out.new result }
 {
-    let numbers = [no.number as u64, no.place as u64];
-    let used = answers::put_no(to, &numbers, out, used);
-    let counted = layout::wide(no.number);
-    Said { used, counted }
+    let numbers = [u64::from(no.number), no.place as u64];
+    answers::put_no(&numbers, out);
+    usize::from(no.number)
 }
 
 // The answer of a call that finds a word, which stands first in the room.
-fn put_found(to: Streams, found: WordAnswer, room: &[u8], out: &mut [u8], used: usize) -> Said
+fn put_found(found: Result<Letters, No>, room: &[u8], out: &mut Out) -> usize
     ensures { (a : Reply (List ℕ)) (R : List ℕ) → Answers a R room.now found
-        → Responds letters_line a out.old used out.new result }
+        → Responds letters_line a out.old out.new result }
 {
     match found {
-        WordAnswer::Found(word) => {
+        Ok(word) => {
             let letters = output::front(room, word.length);
-            let used = answers::put_word(to, word.terms, letters, out, used);
-            Said { used, counted: 0 }
+            answers::put_word(word.terms, letters, out);
+            0
         }
-        WordAnswer::Refused(no) => refused(to, no, out, used),
+        Err(no) => refused(no, out),
     }
 }
 
 // The answer of a call that writes bytes to the front of the room, with the name of what they are.
-fn put_spelled(
-    to: Streams,
-    name: &[u8],
-    spelled: Spelled,
-    room: &[u8],
-    out: &mut [u8],
-    used: usize,
-) -> Said
+fn put_spelled(name: &[u8], spelled: Result<usize, No>, room: &[u8], out: &mut Out) -> usize
     ensures { (a : Reply (List ℕ)) (R : List ℕ) → Spells a R room.now spelled
-        → Responds (bytes_line name.now) a out.old used out.new result }
+        → Responds (bytes_line name.now) a out.old out.new result }
 {
     match spelled {
-        Spelled::Bytes(n) => {
+        Ok(n) => {
             let bytes = output::front(room, n);
-            let used = answers::put_bytes(to, name, bytes, out, used);
-            Said { used, counted: 0 }
+            answers::put_bytes(name, bytes, out);
+            0
         }
-        Spelled::Refused(no) => refused(to, no, out, used),
-    }
-}
-
-// The answer to bytes by an opened table. What `image` and `plan` hold before and after says nothing.
-fn to_bytes(
-    to: Streams,
-    asked: Asked,
-    frames: &[u8; layout::FRAMES],
-    numbers: &[u64; layout::NUMBERS],
-    bytes: &[u8],
-    image: &mut [u8; layout::TREE],
-    plan: &mut [u32; layout::TREE],
-    room: &mut [u8],
-    out: &mut [u8],
-    used: usize,
-) -> Said
-    ensures { Meant frames.now numbers.now (λ M.
-        Responds (given_line asked) (reply_to asked M bytes.now (length room.old)) out.old used out.new result) }
-{
-    match asked {
-        Asked::Word => {
-            let found = word_call::find(frames, numbers, bytes, plan, room);
-            put_found(to, found, room, out, used)
-        }
-        Asked::RecordWord => {
-            let found = record_word_call::find(frames, numbers, bytes, image, plan, room);
-            put_found(to, found, room, out, used)
-        }
-        Asked::RecordTree => {
-            let spelled = record_tree_call::tree(frames, numbers, bytes, room);
-            put_spelled(to, b"tree", spelled, room, out, used)
-        }
-        Asked::TreeRecord => {
-            let spelled = tree_record_call::record(frames, numbers, bytes, room);
-            put_spelled(to, b"record", spelled, room, out, used)
-        }
+        Err(no) => refused(no, out),
     }
 }
 
@@ -130,85 +95,101 @@ fn to_bytes(
 fn of_stream(asked: Asked) -> bool
     ensures { result ≡ of_stream asked }
 {
-    match asked {
-        Asked::Word => false,
-        Asked::RecordWord => true,
-        Asked::RecordTree => true,
-        Asked::TreeRecord => false,
-    }
+    matches!(asked, Asked::RecordWord | Asked::RecordTree)
 }
 
 // Whether the line is a stream with more bytes than a tree may have, of which some are held no more.
 fn is_long_stream(asked: Asked, line: LongLine) -> bool
     ensures { result ≡ of_stream asked && ltb 0 line.past.bytes }
 {
-    if of_stream(asked) {
-        return long_line::is_long(line);
-    }
-    false
+    of_stream(asked) && long_line::is_long(line)
 }
 
-// The answer to a line of whole bytes by an opened table: of a stream that is too long for a tree all was looked through, and the
-// refusal is known; of a tree that is too long any bytes are.
-fn to_held(
-    to: Streams,
-    asked: Asked,
-    line: LongLine,
-    frames: &[u8; layout::FRAMES],
-    numbers: &[u64; layout::NUMBERS],
-    tree: &[u8],
-    image: &mut [u8; layout::TREE],
-    plan: &mut [u32; layout::TREE],
-    room: &mut [u8],
-    out: &mut [u8],
-    used: usize,
-) -> Said
-    ensures { (cs bs : List ℕ) → length cs < count_most → tree_most < length tree.now → bytes_of cs ≡ some bs
-        → LongHeld frames.now numbers.now (2 * length tree.now) cs tree.now line
-        → Meant frames.now numbers.now (λ M.
-        Responds (given_line asked) (reply_to asked M bs (length room.old)) out.old used out.new result) }
-{
-    if is_long_stream(asked, line) {
-        let no = long_line::refusal(line, tree, frames, numbers);
-        return refused(to, no, out, used);
+impl<'a> Question<'a> {
+    // The answer to bytes by an opened table.
+    fn to_bytes(self, bytes: &[u8], scratch: &mut Scratch, out: &mut Out) -> usize
+        ensures same_room { SameRoom scratch.old.room scratch.new.room }
+        ensures answered { Meant self.entry.frames.now self.entry.numbers.now (λ M.
+            Responds (given_line self.entry.asked) (reply_to self.entry.asked M bytes.now (length scratch.old.room.now)) out.old out.new result) }
+    {
+        let Question {
+            frames,
+            numbers,
+            ..
+        } = self;
+        // Each call takes other parts of the memory and answers in its own way, so each stands in its arm.
+        match self.asked {
+            Asked::Word => {
+                let found = word_call::find(frames, numbers, bytes, scratch.plan, scratch.room);
+                put_found(found, scratch.room, out)
+            }
+            Asked::RecordWord => {
+                let found = record_word_call::find(
+                    frames,
+                    numbers,
+                    bytes,
+                    scratch.image,
+                    scratch.plan,
+                    scratch.room,
+                );
+                put_found(found, scratch.room, out)
+            }
+            Asked::RecordTree => {
+                let spelled = record_tree_call::tree(
+                    &OpenTable { frames, numbers },
+                    bytes,
+                    scratch.room,
+                );
+                put_spelled(b"tree", spelled, scratch.room, out)
+            }
+            Asked::TreeRecord => {
+                let spelled = tree_record_call::record(
+                    &OpenTable { frames, numbers },
+                    bytes,
+                    scratch.room,
+                );
+                put_spelled(b"record", spelled, scratch.room, out)
+            }
+        }
     }
-    let bytes = long_line::held(line, tree);
-    to_bytes(
-        to, asked, frames, numbers, bytes, image, plan, room, out, used,
-    )
-}
 
-// The answer to a whole line: one that is not hexadecimal first, then a refused table.
-pub fn to_line(
-    to: Streams,
-    asked: Asked,
-    line: LongLine,
-    opening: Opening,
-    frames: &[u8; layout::FRAMES],
-    numbers: &[u64; layout::NUMBERS],
-    tree: &[u8],
-    image: &mut [u8; layout::TREE],
-    plan: &mut [u32; layout::TREE],
-    room: &mut [u8],
-    out: &mut [u8],
-    used: usize,
-) -> Said
-    ensures { (cs : List ℕ) (t : Reply Table) → length cs < count_most → tree_most < length tree.now
-        → LongHeld frames.now numbers.now (2 * length tree.now) cs tree.now line
-        → Opens frames.now numbers.now t opening
-        → Answered asked t (bytes_of cs) (length room.old) out.old used out.new result }
-{
-    if !long_line::is_hex(line) {
-        let used = output::put_all(to, b"not hex\n", out, used);
-        return Said {
-            used,
-            counted: STRANGE,
-        };
+    // The answer to a line of whole bytes by an opened table: of a stream that is too long for a tree all was looked through, and the
+    // refusal is known; of a tree that is too long any bytes are.
+    fn to_held(self, line: LongLine, tree: &[u8], scratch: &mut Scratch, out: &mut Out) -> usize
+        ensures same_room { SameRoom scratch.old.room scratch.new.room }
+        ensures answered { (cs bs : List ℕ) → length cs < count_most → tree_most < length tree.now → bytes_of cs ≡ some bs
+            → LongHeld self.entry.frames.now self.entry.numbers.now (2 * length tree.now) cs tree.now line
+            → Meant self.entry.frames.now self.entry.numbers.now (λ M.
+            Responds (given_line self.entry.asked) (reply_to self.entry.asked M bs (length scratch.old.room.now)) out.old out.new result) }
+    {
+        if is_long_stream(self.asked, line) {
+            let Question {
+                frames,
+                numbers,
+                ..
+            } = self;
+            let no = long_line::refusal(line, tree, &OpenTable { frames, numbers });
+            return refused(no, out);
+        }
+        let bytes = long_line::held(line, tree);
+        self.to_bytes(bytes, scratch, out)
     }
-    match opening {
-        Opening::Table => to_held(
-            to, asked, line, frames, numbers, tree, image, plan, room, out, used,
-        ),
-        Opening::Refused(no) => refused(to, no, out, used),
+
+    // The answer to a whole line: one that is not hexadecimal first, then a refused table.
+    pub fn to_line(self, line: LongLine, tree: &[u8], scratch: &mut Scratch, out: &mut Out) -> usize
+        ensures same_room { SameRoom scratch.old.room scratch.new.room }
+        ensures answered { (cs : List ℕ) (t : Reply Table) → length cs < count_most → tree_most < length tree.now
+            → LongHeld self.entry.frames.now self.entry.numbers.now (2 * length tree.now) cs tree.now line
+            → Opens self.entry.frames.now self.entry.numbers.now t self.entry.opening
+            → Answered self.entry.asked t (bytes_of cs) (length scratch.old.room.now) out.old out.new result }
+    {
+        if !long_line::is_hex(line) {
+            out.put_all(b"not hex\n");
+            return STRANGE;
+        }
+        match self.opening {
+            Ok(()) => self.to_held(line, tree, scratch, out),
+            Err(no) => refused(no, out),
+        }
     }
 }

@@ -1,5 +1,5 @@
 -- A rule's fields behind its symbol: what the bytes at a place give, and what an answer says of them.
-use mathlib.Core.Path.{◌≡◌, refl, ap, ◌∙◌}
+use mathlib.Core.Path.{◌≡◌, refl, sym, ap}
 use mathlib.Core.List.{List}
 use Prim.Native.Nat.{ℕ, ◌+◌, ◌*◌, ◌≤◌}
 use native.Mathlib.Omega.{arith}
@@ -8,31 +8,28 @@ use Rattle.words.specs.Word.{Word}
 use Rattle.machine.specs.Machine.{Child, Rule}
 use Rattle.text.specs.Fields.{Parsed, got, fault, text, children}
 use Rattle.layout.specs.Layout.{rule_letters, kids_packed, entry_of}
-use Rattle.fields.specs.Read.{WordRead, KidsRead, fault_of, kids_fault_of}
-use Rattle.fields.specs.declared.Field.{Field}
-use Rattle.fields.specs.declared.Field.TheVariants as field
-use Rattle.fields.specs.declared.Kids.{Kids}
-use Rattle.fields.specs.declared.Kids.TheVariants as kids
+use Rattle.std.specs.Prelude.{Result, Ok, Err, IsErrAnd}
+use Rattle.fields.specs.Read.{number_of, WordRead, KidsRead}
+use Rattle.fields.specs.declared.Fault.{Fault}
+use Rattle.fields.proofs.Numbers.{handed_on}
 use Rattle.fields.proofs.Words.{IsWord, fault_word}
 use Rattle.fields.proofs.Siblings.{IsFamily, fault_kids}
-use Rattle.rule_frames.specs.Kept.{rule_field, Entered, RuleRead}
-use Rattle.rule_frames.specs.declared.Entry.{Entry}
-use Rattle.rule_frames.specs.declared.Entry.TheVariants as entry
+use Rattle.rule_frames.specs.Kept.{rule_field, RuleRead}
 
 -- ---- what is refused
 
-module _ (F : List ℕ) (i at end states k : ℕ) where
+module _ (F : List ℕ) (i at end then states k : ℕ) (e : Fault) (r : Result ℕ Fault) (told : IsErrAnd r (λ x. x ≡ e)) where
   -- The word u0 is refused.
-  pub first_stops : (m n : ℕ) (r : Field) → r ≡ field.Fault m → n ≡ fault_of r → WordRead F at end (text (slice at end F)) r
-      → RuleRead F i at end (rule_field states k (slice at end F)) (entry.Fault n)
+  pub first_stops : (behind : ℕ) → WordRead F at end behind (text (slice at end F)) (Err e)
+      → RuleRead F i at end then (rule_field states k (slice at end F)) r
   unfolding rule_field
-  first_stops m n r e f w = rw (fault_word F at end m (text (slice at end F)) r e w) (f ∙ ap fault_of e)
+  first_stops behind w = rw (handed_on r e told, fault_word F at end behind (text (slice at end F)) e w) refl
 
   -- The children are refused.
-  pub rest_stops : (behind m n l : ℕ) (r : Kids) → IsWord F at end l behind (text (slice at end F)) → r ≡ kids.Fault m → n ≡ kids_fault_of r
-      → KidsRead F behind end (children states k (slice behind end F)) r → RuleRead F i at end (rule_field states k (slice at end F)) (entry.Fault n)
+  pub rest_stops : (behind l next : ℕ) → IsWord F at end l behind (text (slice at end F))
+      → KidsRead F behind end next (children states k (slice behind end F)) (Err e) → RuleRead F i at end then (rule_field states k (slice at end F)) r
   unfolding rule_field
-  rest_stops behind m n l r u e f w = rw (u.read, fault_kids F behind end m (children states k (slice behind end F)) r e w) (f ∙ ap kids_fault_of e)
+  rest_stops behind l next u w = rw (handed_on r e told, u.read, fault_kids F behind end next (children states k (slice behind end F)) e w) refl
 
 -- ---- what is read
 
@@ -51,7 +48,7 @@ entry_sum i u cs n more packed x l p e = omega arith
 -- A rule that is read.
 pub rule_got : (F : List ℕ) (number at end states k n behind then more packed x : ℕ) → IsWord F at end n behind (text (slice at end F))
     → IsFamily F behind end then more packed (children states k (slice behind end F)) → x ≡ n + more + 256 + 512 * number + packed
-    → RuleRead F number at end (rule_field states k (slice at end F)) (entry.Rule then x)
+    → RuleRead F number at end then (rule_field states k (slice at end F)) (Ok x)
 unfolding rule_letters
 rule_got F number at end states k n behind then more packed x w i e =
     let c = i.family in
@@ -75,13 +72,12 @@ pub record IsRule (F : List ℕ) (i at end then x : ℕ) (o : Parsed Rule) : Typ
   pub entry : x ≡ entry_of i rule
 
 -- An answer with an entry says so.
-pub got_rule : (F : List ℕ) (i at end then x : ℕ) (o : Parsed Rule) (r : Entry) → r ≡ entry.Rule then x → RuleRead F i at end o r → IsRule F i at end then x o
-got_rule F i at end then x (got u bs) r e h =
-    let w : Entered F bs u i at end then x = rw e at h in
+pub got_rule : (F : List ℕ) (i at end then x : ℕ) (o : Parsed Rule) → RuleRead F i at end then o (Ok x) → IsRule F i at end then x o
+got_rule F i at end then x (got u bs) w =
     record { rule = u; read = ap (got u) w.left; from = w.from; inside = w.inside; entry = w.entry }
-got_rule F i at end then x (fault k) r e h = absurd (let z : ⊥ = rw e at h in z)
+got_rule F i at end then x (fault k) h = absurd h
 
--- An answer with a number of no says that it is refused.
-pub fault_rule : (F : List ℕ) (i at end k : ℕ) (o : Parsed Rule) (r : Entry) → r ≡ entry.Fault k → RuleRead F i at end o r → o ≡ fault k
-fault_rule F i at end k (got u bs) r e h = absurd (let z : ⊥ = rw e at h in z)
-fault_rule F i at end k (fault n) r e h = let z : k ≡ n = rw e at h in cc
+-- An answer with a fault says that it is refused.
+pub fault_rule : (F : List ℕ) (i at end then : ℕ) (o : Parsed Rule) (e : Fault) → RuleRead F i at end then o (Err e) → o ≡ fault (number_of e)
+fault_rule F i at end then (got u bs) e h = absurd h
+fault_rule F i at end then (fault k) e h = ap fault (sym h)

@@ -6,7 +6,7 @@ use Prim.Native.Nat.{ℕ, ◌+◌, ◌*◌, ◌<◌, ◌≤◌}
 use native.Mathlib.Omega.{arith}
 use borrow.Author.Tests.{lt-ltb, le-ltb}
 use lib.Dec.{ltb}
-use lib.ListN.{length, get_or, take, length-append}
+use lib.ListN.{length, get_or, set, take, length-append}
 use lib.Seq.{slice}
 use Rattle.machine.specs.Machine.{Row, Table}
 use Rattle.text.specs.Limits.{rows_most}
@@ -19,10 +19,11 @@ use Rattle.layout.proofs.Modest.{at_most}
 use Rattle.fields.proofs.Slices.{slice_none}
 use Rattle.fields.proofs.Numbers.{IsNumber}
 use Rattle.head_frames.specs.Staged.{AtRules, Stepped}
-use Rattle.rule_frames.specs.Kept.{Appended, rule_field, behind_rule}
+use Rattle.rule_frames.specs.Kept.{rule_field, behind_rule}
 use Rattle.head_frames.specs.declared.Stage.{Stage}
-use Rattle.head_frames.specs.declared.Next.{Next}
-use Rattle.head_frames.specs.declared.Next.TheVariants as next
+use Rattle.std.specs.Prelude.{Result, Ok, Err, IsErrAnd}
+use Rattle.fields.specs.Read.{Finished}
+use Rattle.fields.specs.declared.Fault.{Fault}
 use Rattle.head_frames.proofs.StepFrames.{stepped_left, stepped_ready, frame_more, frame_long}
 use Rattle.rule_frames.proofs.RuleFields.{IsRule}
 use Rattle.rule_frames.proofs.RuleKeys.{rises_true, rises_false}
@@ -30,8 +31,9 @@ use Rattle.rule_frames.proofs.RuleBytes.{row_bytes, arity_there}
 use Rattle.rule_frames.proofs.RuleSteps.{with_rule, behind_symbol, fields_decide}
 use Rattle.rule_frames.proofs.RuleStage.{numbers_more, rows_frames}
 use Rattle.rule_frames.proofs.Keeping.{noted_more}
+use Rattle.head_frames.specs.declared.Note.{Note}
 
-module _ {F R : List ℕ} {st : Stage} {M : Table} (a : AtRules F R st M) (at end : ℕ) where
+module _ {F : List ℕ} {R : List Note} {st : Stage} {M : Table} (a : AtRules F R st M) (at end : ℕ) where
   -- The table's numbers are those of the head.
   abbrev states_of_lem : st.head.states ≡ M.states
   states_of_lem = ap (λ h. h.states) a.numbers.head
@@ -132,8 +134,9 @@ module _ {F R : List ℕ} {st : Stage} {M : Table} (a : AtRules F R st M) (at en
             taken = decided ∙ then_got _ _ r.rule (slice then end F) r.read
 
             -- Bytes are left over.
-            pub rule_over : (S : List ℕ) → then < end → end ≤ length F → Stepped F S (text.whole (text.rule_frame M (slice at end F))) (next.Wrong 5)
-            rule_over S h l = stepped_left F S _ _ then end taken h l
+            pub rule_over : (S : List Note) (e : Fault) (o : Result Stage Fault) → IsErrAnd o (λ x. x ≡ e) → Finished then end (Err e) → end ≤ length F
+                → Stepped F S (text.whole (text.rule_frame M (slice at end F))) o
+            rule_over S e o w h l = stepped_left F S _ e o w _ then end taken h l
 
             module _ (whole : end ≤ then) (next_to : at ≡ st.used + 1) (start : at ≤ end) (inside : end ≤ length F) (kind : get_or F st.used 0 ≡ 3) where
               -- No byte is left over.
@@ -152,13 +155,14 @@ module _ {F R : List ℕ} {st : Stage} {M : Table} (a : AtRules F R st M) (at en
               place_is : from ≡ length (head_frames M) + length (row_frames M.rows) + 3
               place_is = omega (arith, j.next, i.next, a.used, length-append (head_frames M) (row_frames M.rows))
 
-              -- The stage behind the rule, whose numbers were appended.
-              pub rule_next : (R' : List ℕ) (y : ℕ) → Appended R R' st.head.rules y x → y ≡ row_number from row → (o : Next)
-                  → o ≡ next.Ready (behind_rule st (q * 64 + f) end) → Stepped F R' (text.whole (text.rule_frame M (slice at end F))) o
-              rule_next R' y w l o e = stepped_ready F _ _ _ then end taken _ o r.inside whole (record {
+              -- The stage behind the rule, which is noted.
+              pub rule_next : (y : ℕ) → length R ≡ 512 → y ≡ row_number from row
+                  → Stepped F (set R st.head.rules (record { row = y; entry = x })) (text.whole (text.rule_frame M (slice at end F)))
+                  (Ok (behind_rule st (q * 64 + f) end))
+              rule_next y long l = stepped_ready F _ _ _ then end taken _ r.inside whole (record {
                 phase = refl;
                 numbers = numbers_more st M row end a.numbers has_room symbol_small later;
                 used = frame_long F end _ inside frames_with;
                 frames = frames_with;
-                rules = noted_more R R' M row st.head.rules from y x a.rules w rules_of place_is l r.entry;
-              }) e
+                rules = noted_more R M row st.head.rules from y x a.rules (omega (arith, has_room)) rules_of place_is l r.entry;
+              })

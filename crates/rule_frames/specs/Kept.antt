@@ -1,5 +1,5 @@
 -- What is kept of a rule while a text is read, and the stage behind its frame. Definitions only.
-use Rattle.std.specs.Prelude.{◌≡◌, List, [], ◌∷◌, ◌++◌, ℕ, ◌+◌, ◌*◌, ◌≤◌, length, take}
+use Rattle.std.specs.Prelude.{◌≡◌, Result, Ok, Err, List, ℕ, ◌+◌, ◌≤◌}
 use Rattle.std.proofs.Math.Seq.{slice}
 use Rattle.machine.specs.Machine.{Rule}
 use Rattle.text.specs.Fields as fields
@@ -7,15 +7,9 @@ use Rattle.text.specs.Fields.{Parsed, got, fault, ◌>>=◌, pure}
 use Rattle.layout.specs.Layout.{entry_of}
 use Rattle.head_frames.specs.declared.Head.{Head}
 use Rattle.head_frames.specs.declared.Stage.{Stage}
-use Rattle.head_frames.specs.declared.Next.{Next}
-use Rattle.head_frames.specs.declared.Next.TheVariants as next
-use Rattle.rule_frames.specs.declared.Entry.{Entry}
-use Rattle.rule_frames.specs.declared.Entry.TheVariants as entry
-
--- The two numbers x and y of rule number i stand behind those before it, which are as they were.
-pub record Appended (R R' : List ℕ) (i x y : ℕ) : Type 0 where
-  pub long : length R' ≡ length R
-  pub behind : take (2 * (i + 1)) R' ≡ take (2 * i) R ++ x ∷ y ∷ []
+use Rattle.head_frames.specs.declared.Phase.TheVariants as phase
+use Rattle.fields.specs.declared.Fault.{Fault}
+use Rattle.fields.specs.Read.{number_of}
 
 -- The head with one rule more.
 abbrev pub more_rules : Head → Head
@@ -23,7 +17,7 @@ more_rules h = record { symbols = h.symbols; states = h.states; start = h.start;
 
 -- The stage behind a rule at place k, whose frame ends at `end`.
 abbrev pub behind_rule : Stage → ℕ → ℕ → Stage
-behind_rule st k end = record { phase = 1; head = more_rules st.head; last = k + 1; used = end }
+behind_rule st k end = record { phase = phase.Rules; head = more_rules st.head; last = k + 1; used = end }
 
 -- A rule's fields behind its symbol: the word u0, then for each child its state and a word.
 unfoldable pub rule_field : ℕ → ℕ → fields.Field Rule
@@ -39,14 +33,9 @@ pub record Entered (F bs : List ℕ) (r : Rule) (i at end then x : ℕ) : Type 0
   pub inside : then ≤ end
   pub entry : x ≡ entry_of i r
 
--- What reading a rule's fields answers: what is kept for the rule, or the number of no.
-abbrev pub RuleRead : List ℕ → ℕ → ℕ → ℕ → Parsed Rule → Entry → Type 0
-RuleRead F i at end (got r bs) (entry.Rule then x) = Entered F bs r i at end then x
-RuleRead F i at end (got r bs) (entry.Fault n) = ⊥
-RuleRead F i at end (fault k) (entry.Rule then x) = ⊥
-RuleRead F i at end (fault k) (entry.Fault n) = n ≡ k
-
--- The refusal that a rule's fields give.
-abbrev pub refused_by : Entry → Next
-refused_by (entry.Rule then x) = next.Wrong 0
-refused_by (entry.Fault n) = next.Wrong n
+-- What reading a rule's fields answers: what is kept for the rule, or the fault with the number of no.
+abbrev pub RuleRead : List ℕ → ℕ → ℕ → ℕ → ℕ → Parsed Rule → Result ℕ Fault → Type 0
+RuleRead F i at end then (got r bs) (Ok x) = Entered F bs r i at end then x
+RuleRead F i at end then (got r bs) (Err e) = ⊥
+RuleRead F i at end then (fault k) (Ok x) = ⊥
+RuleRead F i at end then (fault k) (Err e) = number_of e ≡ k

@@ -5,19 +5,42 @@ ghost use Rattle.machine.specs.Machine.{Rule};
 ghost use Rattle.layout.specs.Layout.{rule_letters, MeantBy};
 ghost use Rattle.layout.specs.Leaves.{Encodes, Kept, state_no};
 
-use layout::{SYMBOLS, number, states};
+use crate::full::kept_for_full;
+use layout::{NUMBERS, SYMBOLS, states};
+
+// From which bit on a kept number has the state of the first child, of the last, of the second and
+// the third from the end, and how many children there are.
+pub const FIRST_BIT: u32 = 21;
+
+pub const LAST_BIT: u32 = 31;
+
+pub const SECOND_BIT: u32 = 41;
+
+pub const THIRD_BIT: u32 = 51;
+
+pub const KIDS_BIT: u32 = 61;
+
+// Below the children's states it has the rule's number, from this bit on, and lowest how many letters the rule writes.
+const NUMBER_BIT: u32 = 9;
+
+// How many values each of these may have: as many as a table may have states, or rules, and a byte.
+pub const STATES_KEPT: u64 = 64;
+
+const RULES_KEPT: u64 = 512;
+
+const LETTERS_KEPT: u64 = 256;
 
 // What is kept for any state and any symbol.
 pub fn kept_for(numbers: &[u64], q: usize, f: usize) -> u64
     ensures { MeantBy numbers.now (λ M. Kept M q f result) }
 {
-    if states(numbers) <= q {
+    let Ok(numbers) = <&[u64; NUMBERS]>::try_from(numbers) else {
+        return 0;
+    };
+    if states(numbers) <= q || SYMBOLS <= f {
         return 0;
     }
-    if SYMBOLS <= f {
-        return 0;
-    }
-    number(numbers, 592 + (q * 64 + f))
+    kept_for_full(numbers, q, f)
 }
 
 // The rule's number.
@@ -25,7 +48,7 @@ pub fn number_in(x: u64) -> usize
     ensures upper_bound { result < rows_most }
     ensures by_index { (i : ℕ) (r : Rule) → Encodes x i r → result ≡ i }
 {
-    (x / 512 % 512) as usize
+    ((x >> NUMBER_BIT) % RULES_KEPT) as usize
 }
 
 // How many letters it writes itself.
@@ -33,7 +56,7 @@ pub fn letters_in(x: u64) -> usize
     ensures upper_bound { result < 256 }
     ensures by_index { (i : ℕ) (r : Rule) → Encodes x i r → result ≡ rule_letters r }
 {
-    (x % 256) as usize
+    (x % LETTERS_KEPT) as usize
 }
 
 // How many children it has.
@@ -41,7 +64,7 @@ pub fn kids_in(x: u64) -> usize
     ensures upper_bound { result < 8 }
     ensures by_index { (i : ℕ) (r : Rule) → Encodes x i r → result ≡ length r.rest }
 {
-    (x / 2305843009213693952) as usize
+    (x >> KIDS_BIT) as usize
 }
 
 // The state of its first child, 0 if it has none.
@@ -49,7 +72,7 @@ pub fn first_in(x: u64) -> usize
     ensures upper_bound { result < states_most }
     ensures by_index { (i : ℕ) (r : Rule) → Encodes x i r → result ≡ state_no r.rest 0 }
 {
-    (x / 2097152 % 64) as usize
+    ((x >> FIRST_BIT) % STATES_KEPT) as usize
 }
 
 // The state of the child with n others behind it, if that is not the first.
@@ -58,9 +81,9 @@ pub fn later_in(x: u64, n: usize) -> usize
     ensures by_index { (i : ℕ) (r : Rule) (j : ℕ) → Encodes x i r → suc (suc j) + n ≡ length r.rest → result ≡ state_no r.rest (suc j) }
 {
     match n {
-        0 => (x / 2147483648 % 64) as usize,
-        1 => (x / 2199023255552 % 64) as usize,
-        _ => (x / 2251799813685248 % 64) as usize,
+        0 => ((x >> LAST_BIT) % STATES_KEPT) as usize,
+        1 => ((x >> SECOND_BIT) % STATES_KEPT) as usize,
+        _ => ((x >> THIRD_BIT) % STATES_KEPT) as usize,
     }
 }
 

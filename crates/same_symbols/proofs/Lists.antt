@@ -2,8 +2,8 @@
 use mathlib.Core.Path.{◌≡◌, ap, ◌∙◌}
 use mathlib.Core.Bool.{Bool, true, false}
 use mathlib.Core.List.{List, [], ◌∷◌}
-use mathlib.Core.Logic.{◌⊎◌, ⊎_elim}
 use mathlib.Core.Option.{Option, none, some}
+use Rattle.std.specs.Prelude.{min, max}
 use Prim.Native.Nat.{ℕ, zero, suc, ◌<◌, ◌≤◌}
 use native.Mathlib.Omega.{arith}
 use borrow.Author.Tests.{eq-eqb, ne_eqb}
@@ -11,7 +11,7 @@ use lib.ListN.{length, get_or}
 use lib.Seq.{ext_get_or}
 use Rattle.promises.specs.Comparison.{parting, later}
 use Rattle.promises.proofs.Comparison as comparison
-use Rattle.same_symbols.specs.Parting.{AlikeFor, Lesser}
+use Rattle.same_symbols.specs.Parting.{AlikeFor}
 
 -- Symbol lists that are the same part nowhere.
 parting_none : (xs ys : List ℕ) → length xs ≡ length ys → ((j : ℕ) → j < length xs → get_or xs j 0 ≡ get_or ys j 0) → parting xs ys ≡ none
@@ -32,17 +32,15 @@ parting_some (x ∷ xs) (y ∷ ys) (suc i) h k e d n =
     (parting_some xs ys i (omega arith) (omega arith) (λ j l. e (suc j) (omega arith)) (λ a b. d (omega arith) (omega arith))
     (λ a b. n (omega arith) (omega arith)))
 
-module _ {xs ys : List ℕ} {n m both i : ℕ} (c : n ≡ length xs) (d : m ≡ length ys) (l : Lesser n m both) (a : AlikeFor xs ys both i) where
+module _ {xs ys : List ℕ} {n m both i : ℕ} (c : n ≡ length xs) (d : m ≡ length ys) (l : both ≡ min n m) (a : AlikeFor xs ys both i) where
   -- Alike for all symbols of both: the lists part nowhere.
-  pub parted_nowhere : n ≤ i → m ≤ i → parting xs ys ≡ none
-  parted_nowhere h k =
+  pub parted_nowhere : i ≡ max n m → parting xs ys ≡ none
+  parted_nowhere h =
       let b = a.most in
-      parting_none xs ys (omega (arith, l.first, l.second)) (λ j z. a.same j (omega (arith, l.first, l.second)))
+      parting_none xs ys (omega arith) (λ j z. a.same j (omega arith))
 
   -- Alike up to i only, or to the end of the shorter list: they part at i.
-  pub parted_at : (i < n) ⊎ (i < m) → parting xs ys ≡ some i
+  pub parted_at : (i ≡ max n m → ⊥) → parting xs ys ≡ some i
   parted_at o =
       let b = a.most in
-      parting_some xs ys i (omega (arith, l.first)) (omega (arith, l.second)) a.same
-      (λ h k e. a.apart (⊎_elim (λ z. omega arith) (λ z. omega arith) l.one) e)
-      (λ h k. ⊎_elim (λ z. omega arith) (λ z. omega arith) o)
+      parting_some xs ys i (omega arith) (omega arith) a.same (λ h k e. a.apart (omega arith) e) (λ h k. o (omega arith))

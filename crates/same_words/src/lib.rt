@@ -12,21 +12,13 @@ ghost use Rattle.layout.specs.Layout.{frames_size};
 ghost use Rattle.layout.specs.Leaves.{Spot};
 ghost use Rattle.same_words.specs.Words.{Any, RowIn};
 
+use layout::OpenTable;
+
 // Whether two words are equal.
 fn same_letters(a: &[u8], b: &[u8]) -> bool
     ensures { Told (a.now ≡ b.now) result }
 {
-    if a.len() != b.len() {
-        return false;
-    }
-    let mut i: usize = 0;
-    while i < a.len() {
-        if a[i] != b[i] {
-            return false;
-        }
-        i += 1;
-    }
-    true
+    a == b
 }
 
 // Whether the words at two spots are equal.
@@ -48,29 +40,20 @@ fn words_from(frames: &[u8], p: usize, frames2: &[u8], s: usize, kids: usize) ->
 {
     let mut a = p;
     let mut b = s;
-    let mut left = kids;
-    while 0 < left {
+    for i in 0..kids {
         if !same_word(frames, a, frames2, b) {
             return false;
         }
         a = word_leaves::next_spot(frames, a);
         b = word_leaves::next_spot(frames2, b);
-        left -= 1;
     }
     same_word(frames, a, frames2, b)
 }
 
 // Whether two rules have as many children and the same words in turn, by what is kept for them. Counts are compared first.
-pub fn same_words_in(
-    frames: &[u8],
-    numbers: &[u64],
-    x: u64,
-    frames2: &[u8],
-    numbers2: &[u64],
-    y: u64,
-) -> bool
-    ensures { (M N : Table) (a b : Row) → RowIn frames.now numbers.now M a x
-        → RowIn frames2.now numbers2.now N b y → Told (Rules Any (some a.rule) (some b.rule)) result }
+pub fn same_words_in(first: &OpenTable<'_>, x: u64, second: &OpenTable<'_>, y: u64) -> bool
+    ensures { (M N : Table) (a b : Row) → RowIn first.now.frames.now first.now.numbers.now M a x
+        → RowIn second.now.frames.now second.now.numbers.now N b y → Told (Rules Any (some a.rule) (some b.rule)) result }
 {
     if rule_leaves::letters_in(x) != rule_leaves::letters_in(y) {
         return false;
@@ -79,7 +62,7 @@ pub fn same_words_in(
     if kids != rule_leaves::kids_in(y) {
         return false;
     }
-    let p = rule_leaves::spot_of(numbers, rule_leaves::number_in(x));
-    let s = rule_leaves::spot_of(numbers2, rule_leaves::number_in(y));
-    words_from(frames, p, frames2, s, kids)
+    let p = rule_leaves::spot_of(first.numbers, rule_leaves::number_in(x));
+    let s = rule_leaves::spot_of(second.numbers, rule_leaves::number_in(y));
+    words_from(first.frames, p, second.frames, s, kids)
 }

@@ -1,72 +1,65 @@
 // The shape of tree bytes: whether they are one tree, over the symbols of an opened table.
 #![tactic(auto)]
 
-ghost use Rattle.std.specs.Prelude.{◌≡◌, List, ℕ, ◌≤◌, length, drop};
+ghost use Rattle.std.specs.Prelude.{◌≡◌, Err, List, ℕ, ◌≤◌, length, drop, IfOk};
 ghost use Rattle.machine.specs.Machine.{Table};
 ghost use Rattle.words.specs.Reply.{no_at};
 ghost use Rattle.trees.specs.Shape.{tree_at, read_tree};
-ghost use Rattle.layout.specs.Layout.{Opened, Meant};
-ghost use Rattle.shape.specs.Shaped.{Shaped, Inside, Checked};
+ghost use Rattle.layout.specs.Layout.{Opened};
+ghost use Rattle.layout.specs.Lent.{Means};
+ghost use Rattle.shape.specs.Shaped.{ends, size};
 
+use layout::OpenTable;
 use words::No;
 
-// The place behind a tree, or the refusal.
-#[derive(Clone, Copy)]
-pub enum Shape {
-    Ends(usize),
-    Refused(No),
-}
-
-fn refuse(number: u8, place: usize) -> Shape
-    ensures { result ≡ Shape.Refused (no_at number place) }
+fn refuse(number: u8, place: usize) -> Result<usize, No>
+    ensures { result ≡ Err (no_at number place) }
 {
-    Shape::Refused(No { number, place })
+    Err(No { number, place })
 }
 
-// The tree that stands at `at`, with so many levels allowed: where it ends, or the refusal.
-fn tree_at(levels: usize, frames: &[u8], symbols: usize, tree: &[u8], at: usize) -> Shape
+// The tree that stands at `at`, with so many levels allowed: the place behind it, or the refusal.
+fn tree_at(
+    levels: usize,
+    frames: &[u8],
+    symbols: usize,
+    tree: &[u8],
+    at: usize,
+) -> Result<usize, No>
     requires { at ≤ length tree.now }
     ensures by_index { (I : List ℕ) (M : Table) → Opened frames.now I M → symbols ≡ length M.arities
-        → Shaped (tree_at levels M.arities at (drop at tree.now)) result }
-    ensures inside { Inside (length tree.now) result }
+        → result ≡ ends (tree_at levels M.arities at (drop at tree.now)) }
+    ensures inside { IfOk result (λ next. next ≤ length tree.now) }
 {
     if at == tree.len() {
         return refuse(8, at);
     }
-    let f = layout::wide(tree[at]);
+    let f = usize::from(tree[at]);
     if symbols <= f {
         return refuse(7, at);
     }
     if levels == 0 {
         return refuse(10, at);
     }
-    let mut left = layout::arity(frames, f);
+    let children = layout::arity(frames, f);
     let mut next = at + 1;
-    while 0 < left {
-        let below = tree_at(levels - 1, frames, symbols, tree, next);
-        let Shape::Ends(after) = below else {
-            return below;
-        };
-        next = after;
-        left -= 1;
+    for _child in 0..children {
+        next = tree_at(levels - 1, frames, symbols, tree, next)?;
     }
-    Shape::Ends(next)
+    Ok(next)
 }
 
-// Whether tree bytes are one tree of at most 64 levels over the symbols, or the refusal 6, 7, 8, 10 or 11.
-pub fn check(frames: &[u8], numbers: &[u64], tree: &[u8]) -> Shape
-    ensures { Meant frames.now numbers.now (λ M. Checked (read_tree M.arities tree.now) result) }
+// Whether tree bytes are one tree of at most 64 levels over the symbols: how long it is, or the refusal 6, 7, 8, 10 or 11.
+pub fn check(table: &OpenTable<'_>, tree: &[u8]) -> Result<usize, No>
+    ensures { Means table.now (λ M. result ≡ size (read_tree M.arities tree.now)) }
 {
-    if tree.len() == 0 || layout::TREE < tree.len() {
+    if tree.is_empty() || layout::TREE < tree.len() {
         return refuse(6, 0);
     }
-    let symbols = layout::symbols(numbers);
-    let whole = tree_at(layout::LEVELS, frames, symbols, tree, 0);
-    let Shape::Ends(next) = whole else {
-        return whole;
-    };
+    let symbols = layout::symbols(table.numbers);
+    let next = tree_at(layout::LEVELS, table.frames, symbols, tree, 0)?;
     if next < tree.len() {
         return refuse(11, next);
     }
-    whole
+    Ok(next)
 }

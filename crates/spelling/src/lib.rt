@@ -4,23 +4,11 @@
 ghost use Rattle.std.specs.Prelude.{◌≡◌, ◌∷◌, ◌++◌, map, suc, ◌<◌, ◌≤◌, length, drop};
 ghost use Rattle.records.specs.Records.{replaced, spell};
 
-use words::No;
-
-// How many bytes were written to the front of the room, or the refusal.
-#[derive(Clone, Copy)]
-pub enum Spelled {
-    Bytes(usize),
-    Refused(No),
-}
-
 // Byte b, or `new` where b is `old`.
 fn exchanged(b: u8, old: u8, new: u8) -> u8
     ensures { result ≡ replaced old new b }
 {
-    if b == old {
-        return new;
-    }
-    b
+    if b == old { new } else { b }
 }
 
 // Puts bytes to the front of the room, with `new` for each `old`.
@@ -28,10 +16,8 @@ pub fn put_replaced(bytes: &[u8], old: u8, new: u8, room: &mut [u8])
     requires { length bytes.now ≤ length room.old }
     ensures { room.new ≡ map (replaced old new) bytes.now ++ drop (length bytes.now) room.old }
 {
-    let mut i = 0;
-    while i < bytes.len() {
-        room[i] = exchanged(bytes[i], old, new);
-        i += 1;
+    for (i, byte) in bytes.iter().enumerate() {
+        room[i] = exchanged(*byte, old, new);
     }
 }
 

@@ -1,4 +1,4 @@
--- The cases of document 01 without a star hold too, by the definitions alone.
+-- The cases of the specification without a star hold too, by the definitions alone.
 use mathlib.Core.Path.{◌≡◌, refl, sym, ap, ◌∙◌}
 use mathlib.Core.List.{[], ◌∷◌}
 use mathlib.Core.Option.{Option, none, some}

@@ -1,4 +1,4 @@
--- Every starred case of document 01 holds, by the definitions alone.
+-- Every starred case of the specification holds, by the definitions alone.
 use mathlib.Core.Path.{◌≡◌, refl}
 use mathlib.Core.List.{List}
 use Prim.Native.Nat.{ℕ}

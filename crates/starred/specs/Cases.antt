@@ -32,7 +32,7 @@ five = 1 ∷ 2 ∷ 3 ∷ 4 ∷ 5 ∷ []
 abbrev pub abcac : Word
 abcac = 0x61 ∷ 0x62 ∷ 0x63 ∷ 0x61 ∷ 0x63 ∷ []
 
--- The cases in document 01's order, the listing first.
+-- The cases in the specification's order, the listing first.
 abbrev pub cases : List Case
 cases =
     form T T_form
@@ -54,7 +54,7 @@ cases =
     ∷ verdict turn earliest
     ∷ []
 
--- The cases without a star, in document 01's order. The turn table's chain of a has depth 64, and then 65.
+-- The cases without a star, in the specification's order. The turn table's chain of a has depth 64, and then 65.
 abbrev pub others : List Case
 others =
     verdict M2_earliest earliest

@@ -1,3 +1,3 @@
--- The cases of document 01 ("Both sides of each line", and the listing), the starred ones and the others.
+-- The cases of the specification ("Both sides of each line", and the listing), the starred ones and the others.
 pub mod Texts
 pub mod Cases

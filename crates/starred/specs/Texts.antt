@@ -1,4 +1,4 @@
--- The table texts of the cases, as the characters that document 01 prints. Definitions only.
+-- The table texts of the cases, as the characters that the specification prints. Definitions only.
 use Rattle.std.specs.Prelude.{List, [], ◌∷◌, ℕ}
 use Rattle.text.specs.Characters.{lines}
 

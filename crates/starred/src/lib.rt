@@ -1,3 +1,3 @@
 #![tactic(auto)]
 
-// The starred cases of document 01: this crate has their table and one theorem, and no code.
+// The starred cases of the specification: this crate has their table and one theorem, and no code.

@@ -11,7 +11,7 @@ use lib.Dec.{eqb, ltb}
 use lib.ListN.{length, get_or}
 use Rattle.words.specs.Reply.{given}
 use Rattle.records.specs.Counter.{StreamMarks, marks, closing#, opening#, step#, marks_from}
-use Rattle.stream_count.specs.CountTold.{end_behind, labels_behind, Beginning, FirstLabel}
+use Rattle.stream_count.specs.Behind.{end_behind, labels_behind, Beginning, FirstLabel}
 use Rattle.stream_count.proofs.Steps as law
 use Rattle.stream_count.proofs.Steps.{LookedUpTo}
 
@@ -153,5 +153,8 @@ module _ {c a n₀ p : ℕ} {s : List ℕ} {i end labels : ℕ} (apart : a ≤ c
 
 -- Behind the last byte.
 pub counted_all : {c a n₀ p : ℕ} {s : List ℕ} {i end labels : ℕ} → CountedUpTo c a n₀ p s i end labels → length s ≤ i → end ≡ n₀ + 2 * labels
-    → given (marks (end - i) (ltb 0 (p + length s))) ≡ marks_from c a (marks n₀ (ltb 0 p)) p s
-counted_all u h e = law.looked_all (u.sure e) h
+    → marks_from c a (marks n₀ (ltb 0 p)) p s ≡ given (marks (end - length s) (ltb 0 (p + length s)))
+counted_all {c} {a} {n₀} {p} {s} {i} {end} u h e =
+    let j = u.inside in
+    let z : i ≡ length s = omega arith in
+    sym (subst (λ (k : ℕ). given (marks (end - k) (ltb 0 (p + length s))) ≡ marks_from c a (marks n₀ (ltb 0 p)) p s) z (law.looked_all (u.sure e) h))

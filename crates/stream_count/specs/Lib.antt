@@ -1,2 +1,2 @@
--- What counting a stream through tells.
-pub mod CountTold
+-- What counting a stream through keeps behind a byte.
+pub mod Behind

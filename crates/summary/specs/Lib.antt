@@ -1,3 +1,3 @@
--- Summaries of sets of words as numbers, and how the summaries of the states grow.
+-- Summaries of sets of words, and how the summaries of the states grow.
 pub mod Codes
 pub mod Grown

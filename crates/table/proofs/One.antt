@@ -11,8 +11,6 @@ use Rattle.machine.specs.Machine.{Table}
 use Rattle.layout.specs.Layout.{HeadIn, Opened}
 use Rattle.table.specs.Opening.{Opens, Unchanged}
 use Rattle.table_numbers.specs.Storing.{Beyond}
-use Rattle.table.specs.declared.Opening.{Opening}
-use Rattle.table.specs.declared.Opening.TheVariants as opening
 
 -- Two heads of one table are the same.
 head_same : {I J : List ℕ} {M : Table} → HeadIn I M → HeadIn J M → (k : ℕ) → k < 6 → get_or I k 0 ≡ get_or J k 0
@@ -69,12 +67,12 @@ module _ {F F' I I₁ I₂ : List ℕ} {M : Table} (a : Opened F I₁ M) (b : Op
   numbers_same = ext_get_or 0 I₁ I₂ (a.numbers ∙ sym b.numbers) λ k h. number_same k (dec_lt k 8) (dec_lt k 80) (dec_lt k 592)
 
 -- Two answers to one reply, from the same lent bytes F and numbers I.
-pub open_one : (F I : List ℕ) (o : Reply Table) (r r' : Opening) (F₁ I₁ F₂ I₂ : List ℕ) → Opens F₁ I₁ o r → Unchanged F I F₁ I₁ o → Opens F₂ I₂ o r'
+pub open_one : (F I : List ℕ) (o : Reply Table) (r r' : Reply (Unit {0})) (F₁ I₁ F₂ I₂ : List ℕ) → Opens F₁ I₁ o r → Unchanged F I F₁ I₁ o → Opens F₂ I₂ o r'
     → Unchanged F I F₂ I₂ o → (r ≡ r') × (F₁ ≡ F₂) × (I₁ ≡ I₂)
-open_one F I (given M) opening.Table opening.Table F₁ I₁ F₂ I₂ a u b v = (refl, u.0 ∙ sym v.0, numbers_same a b u.1 v.1)
-open_one F I (given M) opening.Table (opening.Refused y) F₁ I₁ F₂ I₂ a u b v = absurd b
-open_one F I (given M) (opening.Refused x) r' F₁ I₁ F₂ I₂ a u b v = absurd a
-open_one F I (refusal o) opening.Table r' F₁ I₁ F₂ I₂ a u b v = absurd a
-open_one F I (refusal o) (opening.Refused x) opening.Table F₁ I₁ F₂ I₂ a u b v = absurd b
-open_one F I (refusal o) (opening.Refused x) (opening.Refused y) F₁ I₁ F₂ I₂ a u b v =
-    (ap opening.Refused (a ∙ sym b), u.0 ∙ sym v.0, u.1 ∙ sym v.1)
+open_one F I (given M) (given _) (given _) F₁ I₁ F₂ I₂ a u b v = (refl, u.0 ∙ sym v.0, numbers_same a b u.1 v.1)
+open_one F I (given M) (given _) (refusal y) F₁ I₁ F₂ I₂ a u b v = absurd b
+open_one F I (given M) (refusal x) r' F₁ I₁ F₂ I₂ a u b v = absurd a
+open_one F I (refusal o) (given _) r' F₁ I₁ F₂ I₂ a u b v = absurd a
+open_one F I (refusal o) (refusal x) (given _) F₁ I₁ F₂ I₂ a u b v = absurd b
+open_one F I (refusal o) (refusal x) (refusal y) F₁ I₁ F₂ I₂ a u b v =
+    (ap refusal (a ∙ sym b), u.0 ∙ sym v.0, u.1 ∙ sym v.1)

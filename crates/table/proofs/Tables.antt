@@ -15,27 +15,25 @@ use Rattle.head_frames.specs.Staged.{head_of}
 use Rattle.table_lines.specs.Reads.{Decoded, Reads}
 use Rattle.table.specs.Opening.{Opens, Unchanged}
 use Rattle.table_numbers.specs.Storing.{RulesNoted, Filled}
-use Rattle.table_lines.specs.declared.Decoding.{Decoding}
-use Rattle.table_lines.specs.declared.Decoding.TheVariants as decoding
-use Rattle.table.specs.declared.Opening.TheVariants as opening
 use Rattle.table.proofs.Copies.{copy_long}
+use Rattle.head_frames.specs.declared.Note.{Note}
 
 -- The text T is that of the table M, whose frames and numbers were read.
-pub record IsTable (T F R : List ℕ) (h : Head) : Type 0 where
+pub record IsTable (T F : List ℕ) (R : List Note) (h : Head) : Type 0 where
   pub table : Table
   pub read : read_table T ≡ given table
   pub head : h ≡ head_of table
   pub decoded : Decoded F R table
 
 -- An answer with a head says so.
-pub is_table : (T F R : List ℕ) (r : Decoding) (h : Head) → r ≡ decoding.Table h → Reads F R (read_table T) r → IsTable T F R h
+pub is_table : (T F : List ℕ) (R : List Note) (r : Reply Head) (h : Head) → r ≡ given h → Reads F R (read_table T) r → IsTable T F R h
 is_table T F R r h e d = go (read_table T) refl d
   where
     go : (o : Reply Table) → read_table T ≡ o → Reads F R o r → IsTable T F R h
     go (given M) q k = let w : (h ≡ head_of M) × Decoded F R M = rw e at k in record { table = M; read = q; head = w.0; decoded = w.1 }
     go (refusal y) q k = absurd (let z : ⊥ = rw e at k in z)
 
-module _ {T F R : List ℕ} {h : Head} (t : IsTable T F R h) where
+module _ {T F : List ℕ} {R : List Note} {h : Head} (t : IsTable T F R h) where
   -- The table has at most 64 states and 512 rules.
   pub few : (h.states ≤ 64) × (h.rules ≤ 512)
   few =
@@ -85,7 +83,7 @@ module _ {T F R : List ℕ} {h : Head} (t : IsTable T F R h) where
         }
 
     -- The bytes that were read into are the opened table's.
-    pub read_opens : Opens F I' (read_table T) opening.Table
+    pub read_opens : Opens F I' (read_table T) (given tt)
     read_opens =
         let k : ℕ = length (frames_of t.table) in
         let e : F ≡ frames_of t.table ++ drop k F = sym (take-append-drop k F) ∙ ap (λ l. l ++ drop k F) t.decoded.frames in
@@ -93,7 +91,7 @@ module _ {T F R : List ℕ} {h : Head} (t : IsTable T F R h) where
 
     -- Bytes that the frames were copied to are too, and what the table does not use is as it was.
     pub copied_opens : (n : ℕ) (F₀ F' : List ℕ) → n ≡ (length T - (h.symbols + h.rules + 2)) / 2 → length F₀ ≡ frames_size → F' ≡ take n F ++ drop n F₀
-        → Opens F' I' (read_table T) opening.Table × Unchanged F₀ I F' I' (read_table T)
+        → Opens F' I' (read_table T) (given tt) × Unchanged F₀ I F' I' (read_table T)
     copied_opens n F₀ F' is l e =
         let m = frames_inside n is in
         let k : length F' ≡ frames_size = copy_long F F₀ F' n (omega (arith, t.decoded.bytes)) (omega arith) e ∙ l in

@@ -2,4 +2,5 @@
 pub mod UsedBytes
 pub mod Stages
 pub mod LineByLine
+pub mod Frames
 pub mod Ends

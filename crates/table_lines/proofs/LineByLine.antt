@@ -16,28 +16,29 @@ use Rattle.text.proofs.Reading.{read_fit}
 use Rattle.text.proofs.Back.{read_limited}
 use Rattle.layout.specs.Layout.{frames_size}
 use Rattle.lines.specs.Scan.{scan, bad}
+use Rattle.lines.specs.declared.Line.{Line}
 use Rattle.lines.proofs.Laws.{scan_small, read_whole_next, read_whole_wrong, read_bad, IsWhole}
 use Rattle.head_frames.specs.Staged.{Staged}
 use Rattle.head_frames.specs.declared.Stage.{Stage}
 use Rattle.table_lines.proofs.UsedBytes.{used_more}
 use Rattle.table_lines.proofs.Stages.{staged_kept, FrameLeads}
+use Rattle.head_frames.specs.declared.Note.{Note}
 
 -- The lines before `at` are read, and those from there on decide.
-pub record ReadUpTo (T F R : List ℕ) (st : Stage) (at : ℕ) : Type 0 where
+pub record ReadUpTo (T F : List ℕ) (R : List Note) (st : Stage) (at : ℕ) : Type 0 where
   pub stage : text.Stage
   pub staged : Staged F R st stage
   pub rest : read_table T ≡ read_lines stage at (lines_of (drop at T))
   pub inside : at ≤ length T
   pub room : 2 * st.used ≤ at
   pub bytes : length F ≡ frames_size
-  pub rules : length R ≡ 1024
 
 -- Nothing is read yet.
-pub up_to_begin : (T F R : List ℕ) (st : Stage) → 1 ≤ length T → length T ≤ text_most → length F ≡ frames_size → length R ≡ 1024 → Staged F R st
+pub up_to_begin : (T F : List ℕ) (R : List Note) (st : Stage) → 1 ≤ length T → length T ≤ text_most → length F ≡ frames_size → Staged F R st
     (text.symbols [])
     → st.used ≡ 0 → ReadUpTo T F R st 0
-up_to_begin T F R st h k b i d e =
-    record { stage = text.symbols []; staged = d; rest = read_fit T h k; inside = omega arith; room = omega arith; bytes = b; rules = i }
+up_to_begin T F R st h k b d e =
+    record { stage = text.symbols []; staged = d; rest = read_fit T h k; inside = omega arith; room = omega arith; bytes = b }
 
 -- ---- bytes put into bytes
 
@@ -54,7 +55,7 @@ module _ (p q r : List ℕ) (a : ℕ) (e : length p ≡ a) where
 
 -- ---- one line
 
-module _ {T F R : List ℕ} {st : Stage} {at : ℕ} (g : ReadUpTo T F R st at) where
+module _ {T F : List ℕ} {R : List Note} {st : Stage} {at : ℕ} (g : ReadUpTo T F R st at) where
   -- A bad line is 2 where it starts.
   pub line_bad : at < length T → scan (drop at T) ≡ bad → read_table T ≡ refused 2 at
   line_bad h e = g.rest ∙ read_bad g.stage at (drop at T) (λ n. omega (arith, length-drop at T, ap length n)) e
@@ -68,9 +69,9 @@ module _ {T F R : List ℕ} {st : Stage} {at : ℕ} (g : ReadUpTo T F R st at) w
   pub end_limited : length T ≤ at → (M : Table) → finish g.stage at ≡ given M → Limited M
   end_limited h M e = read_limited T M (text_end h ∙ e)
 
-  module _ {F' : List ℕ} {n then : ℕ} (w : IsWhole T (scan (drop at T)) at st.used n then F F') (fit : length T ≤ text_most) where
+  module _ {F' : List ℕ} {l : Line} (w : IsWhole T (scan (drop at T)) at st.used l F F') (fit : length T ≤ text_most) where
     -- The frame fits behind the bytes that are used.
-    pub line_fits : st.used + n ≤ 16383
+    pub line_fits : st.used + l.bytes ≤ 16383
     line_fits = omega (arith, g.room, w.put.next, w.put.inside)
 
     -- The bytes that are used are there.
@@ -84,41 +85,40 @@ module _ {T F R : List ℕ} {st : Stage} {at : ℕ} (g : ReadUpTo T F R st at) w
 
     -- The bytes that are used are as they were.
     line_front : take st.used F' ≡ take st.used F
-    line_front = ap (take st.used) w.put.put ∙ put_front (take st.used F) w.bytes (drop (st.used + n) F) st.used line_used
+    line_front = ap (take st.used) w.put.put ∙ put_front (take st.used F) w.bytes (drop (st.used + l.bytes) F) st.used line_used
 
     -- Behind them stands the frame.
-    line_frame : slice st.used (st.used + n) F' ≡ w.bytes
+    line_frame : slice st.used (st.used + l.bytes) F' ≡ w.bytes
     line_frame =
-        ap (slice st.used (st.used + n)) w.put.put
-        ∙ put_part (take st.used F) w.bytes (drop (st.used + n) F) st.used line_used n (sym w.put.bytes)
+        ap (slice st.used (st.used + l.bytes)) w.put.put
+        ∙ put_part (take st.used F) w.bytes (drop (st.used + l.bytes) F) st.used line_used l.bytes (sym w.put.bytes)
 
     -- The stage is as it was.
     pub line_staged : Staged F' R st g.stage
     line_staged = staged_kept F F' R st g.stage g.staged line_front
 
     -- A wrong frame is refused where its line starts.
-    pub line_wrong : (k : ℕ) → text.step g.stage (slice st.used (st.used + n) F') ≡ text.wrong k → read_table T ≡ refused k at
+    pub line_wrong : (k : ℕ) → text.step g.stage (slice st.used (st.used + l.bytes) F') ≡ text.wrong k → read_table T ≡ refused k at
     line_wrong k e =
         g.rest
         ∙ read_whole_wrong g.stage at (drop at T) w.bytes w.left k w.scanned (ap (text.step g.stage) (sym line_frame) ∙ e)
 
     -- A frame that is read leads on to the next line.
-    pub line_next : (R' : List ℕ) (st' : Stage) → FrameLeads F' R' st' (text.step g.stage (slice st.used (st.used + n) F')) → length R' ≡ 1024
-        → ReadUpTo T F' R' st' then
-    line_next R' st' l i =
-        let s : text.step g.stage w.bytes ≡ text.next l.stage = ap (text.step g.stage) (sym line_frame) ∙ l.step in
+    pub line_next : (R' : List Note) (st' : Stage) → FrameLeads F' R' st' (text.step g.stage (slice st.used (st.used + l.bytes) F'))
+        → ReadUpTo T F' R' st' l.next
+    line_next R' st' m =
+        let s : text.step g.stage w.bytes ≡ text.next m.stage = ap (text.step g.stage) (sym line_frame) ∙ m.step in
         let small = scan_small (drop at T) w.bytes w.left w.scanned in
-        let u : st'.used ≡ st.used + length w.bytes = used_more F R F' R' st st' _ _ w.bytes small s g.staged l.staged in
-        let p : at + suc (2 * length w.bytes) ≡ then = omega (arith, w.put.next, w.put.bytes) in
+        let u : st'.used ≡ st.used + length w.bytes = used_more F R F' R' st st' _ _ w.bytes small s g.staged m.staged in
+        let p : at + suc (2 * length w.bytes) ≡ l.next = omega (arith, w.put.next, w.put.bytes) in
         record {
-          stage = l.stage;
-          staged = l.staged;
+          stage = m.stage;
+          staged = m.staged;
           rest = g.rest
-              ∙ read_whole_next g.stage at (drop at T) w.bytes w.left l.stage w.scanned s
-              ∙ ap (λ a. read_lines l.stage a (lines_of w.left)) p
-              ∙ ap (λ t. read_lines l.stage then (lines_of t)) (sym w.put.rest);
+              ∙ read_whole_next g.stage at (drop at T) w.bytes w.left m.stage w.scanned s
+              ∙ ap (λ a. read_lines m.stage a (lines_of w.left)) p
+              ∙ ap (λ t. read_lines m.stage l.next (lines_of t)) (sym w.put.rest);
           inside = w.put.inside;
           room = omega (arith, g.room, w.put.next, w.put.bytes);
           bytes = line_bytes;
-          rules = i;
         }

@@ -11,6 +11,7 @@ use Rattle.layout.specs.Layout.{symbol_frames, head_frames, row_frames, frames_o
 use Rattle.layout.proofs.Growing.{symbols_more, rows_more}
 use Rattle.head_frames.specs.Staged.{Staged}
 use Rattle.head_frames.specs.declared.Stage.{Stage}
+use Rattle.head_frames.specs.declared.Note.{Note}
 
 -- The frames up to a stage.
 unfoldable decoded : text.Stage → List ℕ
@@ -29,14 +30,15 @@ takes_decoded s frame s' (row M r e f g h) =
 takes_decoded s frame s' (end M e f g) = rw (e, f, g)
 
 -- The reader uses as many bytes as are decoded.
-staged_used : (F R : List ℕ) (st : Stage) (s : text.Stage) → Staged F R st s → st.used ≡ length (decoded s)
+staged_used : (F : List ℕ) (R : List Note) (st : Stage) (s : text.Stage) → Staged F R st s → st.used ≡ length (decoded s)
 unfolding decoded
 staged_used F R st (symbols ks) d = d.used
 staged_used F R st (rules M) d = d.used
 staged_used F R st (ended M) d = d.used
 
 -- A frame that is read uses its bytes.
-pub used_more : (F R F' R' : List ℕ) (st st' : Stage) (s s' : text.Stage) (frame : List ℕ) → AtMost 255 frame → text.step s frame ≡ text.next s'
+pub used_more : (F : List ℕ) (R : List Note) (F' : List ℕ) (R' : List Note) (st st' : Stage) (s s' : text.Stage) (frame : List ℕ) → AtMost 255 frame → text.step
+    s frame ≡ text.next s'
     → Staged F R st s → Staged F' R' st' s' → st'.used ≡ st.used + length frame
 used_more F R F' R' st st' s s' frame h e d d' =
     staged_used F' R' st' s' d'

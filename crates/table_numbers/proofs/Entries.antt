@@ -14,6 +14,8 @@ use Rattle.machine.specs.Machine.{Row, Table}
 use Rattle.layout.specs.Layout.{entry_of, entry_in}
 use Rattle.table_numbers.specs.Storing.{NumbersPut, RulesNoted, entries_from}
 use Rattle.table_numbers.proofs.RuleNumbers.{rule_no}
+use Rattle.head_frames.specs.Staged.{blank}
+use Rattle.head_frames.specs.declared.Note.{Note}
 
 -- Row r is the one of state q and symbol f.
 abbrev picks : Row → ℕ → ℕ → Bool
@@ -50,7 +52,7 @@ own_place r k e =
     omega (arith, eqb-true r.state (k / 64) d.0, eqb-true r.symbol (k % 64) d.1)
 
 -- Behind the last rule nothing is kept, where all places are clear.
-pub entries_none : {R : List ℕ} {n : ℕ} {M : Table} → RulesNoted R n M → (I : List ℕ) → ((k : ℕ) → k < M.states * 64 → get_or I (592 + k) 0 ≡ 0)
+pub entries_none : {R : List Note} {n : ℕ} {M : Table} → RulesNoted R n M → (I : List ℕ) → ((k : ℕ) → k < M.states * 64 → get_or I (592 + k) 0 ≡ 0)
     → NumbersPut (entries_from M n) 592 (M.states * 64) I I
 entries_none {R} {n} {M} rules I clear =
     let l : length M.rows ≤ n = omega (arith, rules.count) in
@@ -62,9 +64,9 @@ entries_none {R} {n} {M} rules I clear =
       behind = λ k h. refl;
     }
 
-module _ {R : List ℕ} {n : ℕ} {M : Table} (rules : RulesNoted R n M) (i j : ℕ) (next : j ≡ i + 1) (inside : i < n) {I I' : List ℕ} (long : length I ≡ 4688)
-    (p : NumbersPut (entries_from M j) 592 (M.states * 64) I I') (place entry : ℕ) (at : place ≡ get_or R (2 * i) 0 / 131072 % 4096)
-    (is : entry ≡ get_or R (2 * i + 1) 0) where
+module _ {R : List Note} {n : ℕ} {M : Table} (rules : RulesNoted R n M) (i j : ℕ) (next : j ≡ i + 1) (inside : i < n) {I I' : List ℕ} (long : length I ≡ 4688)
+    (p : NumbersPut (entries_from M j) 592 (M.states * 64) I I') (place entry : ℕ) (at : place ≡ (get_or R i blank).row / 131072 % 4096)
+    (is : entry ≡ (get_or R i blank).entry) where
   -- The rules from number i on are the rule and those behind it.
   from_here : (k : ℕ) → entries_from M i k ≡ entry_in i ((rule_no rules i inside).row ∷ drop (suc i) M.rows) (k / 64) (k % 64)
   from_here k = ap (λ rows. entry_in i rows (k / 64) (k % 64)) (rule_no rules i inside).rest

@@ -8,11 +8,12 @@ use lib.ListN.{length, get_or, drop}
 use Rattle.machine.specs.Machine.{Table}
 use Rattle.layout.specs.Layout.{entry_in, rows_before, HeadIn, Firsts, Listed, Grid}
 use Rattle.head_frames.specs.declared.Head.{Head}
-use Rattle.head_frames.specs.Staged.{head_of}
+use Rattle.head_frames.specs.Staged.{blank, head_of}
 use Rattle.table_numbers.specs.Storing.{Beyond}
 use Rattle.table_numbers.specs.Storing.{head_numbers, NumbersPut, RulesNoted, entries_from, Filled}
 use Rattle.table_numbers.proofs.Puts.{put_front}
 use Rattle.table_numbers.proofs.RuleNumbers.{row_no}
+use Rattle.head_frames.specs.declared.Note.{Note}
 
 -- In the two places behind the head stands 0.
 head_blank : (h : Head) (k : ℕ) → 6 ≤ k → k < 8 → get_or (head_numbers h) k 0 ≡ 0
@@ -22,11 +23,11 @@ head_blank h k l m = go (dec_lt k 7)
     go (yes d) = let e : k ≡ 6 = omega arith in ap (λ j. get_or (head_numbers h) j 0) e
     go (no d) = let e : k ≡ 7 = omega arith in ap (λ j. get_or (head_numbers h) j 0) e
 
-module _ {M : Table} {R : List ℕ} {h : Head} (I : List ℕ) {I₁ I₂ I₃ I₄ I₅ : List ℕ}
+module _ {M : Table} {R : List Note} {h : Head} (I : List ℕ) {I₁ I₂ I₃ I₄ I₅ : List ℕ}
     (long : length I ≡ 4688) (few : h.states ≤ 64) (many : h.rules ≤ 512) (is : h ≡ head_of M) (rules : RulesNoted R h.rules M)
     (front : I₁ ≡ head_numbers h ++ drop 8 I)
     (firsts : NumbersPut (λ q. rows_before q M.rows) 8 (h.states + 1) I₁ I₂)
-    (rows : NumbersPut (λ i. get_or R (2 * i) 0) 80 h.rules I₂ I₃)
+    (rows : NumbersPut (λ i. (get_or R i blank).row) 80 h.rules I₂ I₃)
     (clear : NumbersPut (λ k. 0) 592 (h.states * 64) I₃ I₄)
     (entries : NumbersPut (entries_from M 0) 592 (M.states * 64) I₄ I₅) where
   -- The head is put in front.

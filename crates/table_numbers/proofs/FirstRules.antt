@@ -3,7 +3,7 @@ use mathlib.Core.Path.{◌≡◌, refl, ap, subst, ◌∙◌}
 use mathlib.Core.Bool.{true, false}
 use mathlib.Core.List.{List, [], ◌∷◌}
 use mathlib.Core.Logic.{⊎_elim}
-use Prim.Native.Nat.{ℕ, zero, suc, ◌+◌, ◌*◌, ◌/◌, ◌%◌, ◌<◌, ◌≤◌}
+use Prim.Native.Nat.{ℕ, zero, suc, ◌+◌, ◌/◌, ◌%◌, ◌<◌, ◌≤◌}
 use native.Mathlib.Numerals.{add-one}
 use native.Mathlib.Omega.{arith}
 use borrow.Author.Tests.{lt-ltb, le-ltb}
@@ -13,6 +13,8 @@ use Rattle.layout.specs.Layout.{rows_before}
 use Rattle.table_numbers.specs.Storing.{NumbersPut, RulesNoted, RulesPassed}
 use Rattle.table_numbers.proofs.Puts.{put_none, put_more}
 use Rattle.table_numbers.proofs.RuleNumbers.{rule_no}
+use Rattle.head_frames.specs.Staged.{blank}
+use Rattle.head_frames.specs.declared.Note.{Note}
 
 -- A first row of a state below p is one of them.
 before_one : (p : ℕ) (r : Row) (rows : List Row) → r.state < p → rows_before p (r ∷ rows) ≡ suc (rows_before p rows)
@@ -46,20 +48,20 @@ rising_from rows zero h = h
 rising_from [] (suc i) h = tt
 rising_from (r ∷ rows) (suc i) h = rising_from rows i (rising_rest r rows h)
 
-module _ {R : List ℕ} {n : ℕ} {M : Table} (rules : RulesNoted R n M) (q i : ℕ) where
+module _ {R : List Note} {n : ℕ} {M : Table} (rules : RulesNoted R n M) (q i : ℕ) where
   -- Behind the last rule is none.
   pub passed_all : n ≤ i → rows_before q (drop i M.rows) ≡ 0
   passed_all h = let l : length M.rows ≤ i = omega (arith, rules.count) in ap (rows_before q) (drop_of_length-le M.rows l) ∙ before_none q
 
   -- From a rule on whose state is not below q there is none.
-  pub passed_to : i < n → q ≤ get_or R (2 * i) 0 / 8388608 % 64 → rows_before q (drop i M.rows) ≡ 0
+  pub passed_to : i < n → q ≤ (get_or R i blank).row / 8388608 % 64 → rows_before q (drop i M.rows) ≡ 0
   passed_to h k =
       let m = rule_no rules i h in
       let rise : Rising (m.row ∷ drop (suc i) M.rows) = subst Rising m.rest (rising_from M.rows i rules.limited.made.rising) in
       ap (rows_before q) m.rest ∙ none_below q m.row (drop (suc i) M.rows) rise (omega (arith, m.state))
 
   -- A rule whose state is below q is one.
-  pub passed_one : i < n → get_or R (2 * i) 0 / 8388608 % 64 < q → (p : ℕ) → q ≤ p
+  pub passed_one : i < n → (get_or R i blank).row / 8388608 % 64 < q → (p : ℕ) → q ≤ p
       → i + rows_before p (drop i M.rows) ≡ i + 1 + rows_before p (drop (i + 1) M.rows)
   passed_one h k p l =
       let m = rule_no rules i h in

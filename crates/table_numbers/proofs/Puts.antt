@@ -4,8 +4,9 @@ use mathlib.Core.List.{List, ◌++◌}
 use Prim.Native.Nat.{ℕ, ◌+◌, ◌-◌, ◌<◌, ◌≤◌}
 use native.Mathlib.Omega.{arith}
 use native.Mathlib.Decide.{dec_lt}
-use lib.ListN.{length, get_or, set, drop, length-append, length-drop, length-set, get_or-append}
-use lib.Seq.{get_or-set_same, get_or-set_other, get_or-append-add, get_or-drop}
+use lib.ListN.{length, get_or, set, take, drop, replicate, length-append, length-drop, length-set, get_or-append}
+use Rattle.std.proofs.lemmas.List.{get_or-append_right, get_or-replicate, get_or-take, length-replicate}
+use lib.Seq.{length-take-le, get_or-set_same, get_or-set_other, get_or-append-add, get_or-drop}
 use Rattle.table_numbers.specs.Storing.{NumbersPut}
 
 -- Nothing is put yet.
@@ -48,3 +49,34 @@ put_front xs I I' h e =
           ap (λ x. get_or x k 0) e ∙ ap (λ m. get_or (xs ++ drop n I) m 0) d ∙ get_or-append-add xs (drop n I) (k - n) 0 ∙ get_or-drop n I (k - n) 0
           ∙ ap (λ m. get_or I m 0) (sym d);
     }
+
+-- Zeros that stand in the place of n numbers from place a on are put there.
+pub put_zeros : (a n : ℕ) (I I' : List ℕ) → a + n ≤ length I → I' ≡ take a I ++ replicate n 0 ++ drop (a + n) I → NumbersPut (λ _. 0) a n I I'
+put_zeros a n I I' h e = record {
+  long = ap length e ∙ simp (length-append, length-drop) (omega (arith, front_long, zeros_long));
+  here = λ i l.
+      ap (λ x. get_or x (a + i) 0) e
+      ∙ get_or-append (take a I ++ replicate n 0) (drop (a + n) I) 0 (a + i) (omega (arith, both_long))
+      ∙ get_or-append_right (take a I) (replicate n 0) a (a + i) 0 front_long (omega arith)
+      ∙ get_or-replicate n (a + i - a) 0 0 (omega arith);
+  before = λ k l.
+      ap (λ x. get_or x k 0) e
+      ∙ get_or-append (take a I ++ replicate n 0) (drop (a + n) I) 0 k (omega (arith, both_long))
+      ∙ get_or-append (take a I) (replicate n 0) 0 k (omega (arith, front_long))
+      ∙ get_or-take a I k 0 l;
+  behind = λ k l.
+      let d : a + n + (k - (a + n)) ≡ k = omega arith in
+      ap (λ x. get_or x k 0) e
+      ∙ get_or-append_right (take a I ++ replicate n 0) (drop (a + n) I) (a + n) k 0 both_long l
+      ∙ get_or-drop (a + n) I (k - (a + n)) 0
+      ∙ ap (λ m. get_or I m 0) d;
+}
+  where
+    front_long : length (take a I) ≡ a
+    front_long = length-take-le a I (omega arith)
+
+    zeros_long : length {A = ℕ} (replicate n 0) ≡ n
+    zeros_long = length-replicate n 0
+
+    both_long : length {A = ℕ} (take a I ++ replicate n 0) ≡ a + n
+    both_long = length-append (take a I) (replicate n 0) ∙ omega (arith, front_long, zeros_long)

@@ -6,6 +6,7 @@ use Rattle.text.specs.Writing.{Limited}
 use Rattle.layout.specs.Layout.{firsts_from, rules_from, grid_from, entry_in, rows_before, HeadIn, Firsts, Listed, Grid}
 use Rattle.head_frames.specs.declared.Head.{Head}
 use Rattle.head_frames.specs.Staged.{Noted}
+use Rattle.head_frames.specs.declared.Note.{Note}
 
 -- The head of the numbers, and 0 in the two places behind it.
 abbrev pub head_numbers : Head → List ℕ
@@ -18,8 +19,8 @@ pub record NumbersPut (f : ℕ → ℕ) (a n : ℕ) (I I' : List ℕ) : Type 0 w
   pub before : (k : ℕ) → k < a → get_or I' k 0 ≡ get_or I k 0
   pub behind : (k : ℕ) → a + n ≤ k → get_or I' k 0 ≡ get_or I k 0
 
--- The list R begins with the two numbers of each of the n rules of the limited table M.
-pub record RulesNoted (R : List ℕ) (n : ℕ) (M : Table) : Type 0 where
+-- The list R begins with what is noted of each of the n rules of the limited table M.
+pub record RulesNoted (R : List Note) (n : ℕ) (M : Table) : Type 0 where
   pub limited : Limited M
   pub count : n ≡ length M.rows
   pub noted : Noted R M

@@ -2,14 +2,14 @@
 // numbers, what is kept for each state and symbol. What the table does not use is not written.
 #![tactic(auto)]
 
-ghost use Rattle.std.specs.Prelude.{◌≡◌, ◌++◌, ℕ, ◌+◌, ◌*◌, ◌/◌, ◌%◌, ◌<◌, ◌≤◌, length, get_or, drop};
+ghost use Rattle.std.specs.Prelude.{◌≡◌, ◌++◌, ℕ, ◌+◌, ◌*◌, ◌/◌, ◌%◌, ◌<◌, ◌≤◌, get_or, drop};
 ghost use Rattle.machine.specs.Machine.{Table};
 ghost use Rattle.text.specs.Limits.{symbols_most};
-ghost use Rattle.layout.specs.Layout.{numbers_size, firsts_from, rules_from, grid_from, rows_before};
-ghost use Rattle.head_frames.specs.Staged.{head_of};
+ghost use Rattle.layout.specs.Layout.{firsts_from, rules_from, grid_from, rows_before};
+ghost use Rattle.head_frames.specs.Staged.{blank, head_of};
 ghost use Rattle.table_numbers.specs.Storing.{head_numbers, NumbersPut, RulesNoted, RulesPassed, entries_from, Filled};
 
-use head_frames::Head;
+use head_frames::{Head, Note};
 
 // Where in the numbers the states' first rules stand, the rules, and what is kept for each state and
 // symbol.
@@ -34,97 +34,87 @@ fn key_of(row: u64) -> usize
 }
 
 // Stores the head, and 0 in the two places behind it.
-fn put_head(numbers: &mut [u64], head: Head)
-    requires { length numbers.old ≡ numbers_size }
+fn put_head(numbers: &mut [u64; layout::NUMBERS], head: Head)
     ensures { numbers.new ≡ head_numbers head ++ drop 8 numbers.old }
 {
-    numbers[0] = head.symbols as u64;
-    numbers[1] = head.states as u64;
-    numbers[2] = head.start as u64;
-    numbers[3] = head.rules as u64;
-    numbers[4] = head.before as u64;
-    numbers[5] = head.after as u64;
-    numbers[6] = 0;
-    numbers[7] = 0;
+    numbers[..FIRSTS].copy_from_slice(&[
+        head.symbols as u64,
+        head.states as u64,
+        head.start as u64,
+        head.rules as u64,
+        head.before as u64,
+        head.after as u64,
+        0,
+        0,
+    ]);
 }
 
 // The first of n rules, from number `from` on, whose state is not below q; n if there is none.
-fn first_from(rules: &[u64], n: usize, from: usize, q: usize) -> usize
-    requires { (length rules.now ≡ 1024) × (n ≤ 512) × (from ≤ n) }
+fn first_from(rules: &[Note; layout::RULES], n: usize, from: usize, q: usize) -> usize
+    requires { (n ≤ 512) × (from ≤ n) }
     ensures rules_passed { (M : Table) → RulesNoted rules.now n M → RulesPassed M q from result }
     ensures lower_bound { (from ≤ result) × (result ≤ n) }
 {
-    let mut i = from;
-    while i < n {
-        if q <= state_of(rules[2 * i]) {
+    for i in from..n {
+        if q <= state_of(rules[i].row) {
             return i;
         }
-        i += 1;
     }
-    i
+    n
 }
 
 // Stores for each state the number of its first rule, and behind them the number of rules.
-fn put_firsts(numbers: &mut [u64], rules: &[u64], n: usize, states: usize)
-    requires numbers_len { (length numbers.old ≡ numbers_size) × (length rules.now ≡ 1024) }
-    requires n_bound { (n ≤ 512) × (states ≤ 64) }
-    ensures numbers_put { (M : Table) → RulesNoted rules.now n M
+fn put_firsts(
+    numbers: &mut [u64; layout::NUMBERS],
+    rules: &[Note; layout::RULES],
+    n: usize,
+    states: usize,
+)
+    requires { (n ≤ 512) × (states ≤ 64) }
+    ensures { (M : Table) → RulesNoted rules.now n M
         → NumbersPut (λ q. rows_before q M.rows) firsts_from (states + 1) numbers.old numbers.new }
-    ensures numbers_len_2 { length numbers.new ≡ numbers_size }
 {
-    let mut q = 0;
     let mut first = 0;
-    while q <= states {
+    for q in 0..states + 1 {
         first = first_from(rules, n, first, q);
         numbers[FIRSTS + q] = first as u64;
-        q += 1;
     }
 }
 
 // Stores each rule's number as a row, in turn.
-fn put_rows(numbers: &mut [u64], rules: &[u64], n: usize)
-    requires { (length numbers.old ≡ numbers_size) × (length rules.now ≡ 1024) × (n ≤ 512) }
-    ensures { NumbersPut (λ i. get_or rules.now (2 * i) 0) rules_from n numbers.old numbers.new }
+fn put_rows(numbers: &mut [u64; layout::NUMBERS], rules: &[Note; layout::RULES], n: usize)
+    requires { n ≤ 512 }
+    ensures { NumbersPut (λ i. (get_or rules.now i blank).row) rules_from n numbers.old numbers.new }
 {
-    let mut i = 0;
-    while i < n {
-        numbers[ROWS + i] = rules[2 * i];
-        i += 1;
+    for i in 0..n {
+        numbers[ROWS + i] = rules[i].row;
     }
 }
 
 // Clears the first n places of what is kept for states and symbols.
-fn clear(numbers: &mut [u64], n: usize)
-    requires { (length numbers.old ≡ numbers_size) × (n ≤ 4096) }
+fn clear(numbers: &mut [u64; layout::NUMBERS], n: usize)
+    requires { n ≤ 4096 }
     ensures { NumbersPut (λ _. 0) grid_from n numbers.old numbers.new }
 {
-    let mut i = 0;
-    while i < n {
-        numbers[GRID + i] = 0;
-        i += 1;
-    }
+    numbers[GRID..GRID + n].fill(0);
 }
 
 // Stores what is kept for the state and the symbol of each rule, where the places of all states are
 // clear.
-fn put_entries(numbers: &mut [u64], rules: &[u64], n: usize)
-    requires { (length numbers.old ≡ numbers_size) × (length rules.now ≡ 1024) × (n ≤ 512) }
-    ensures numbers_put { (M : Table) → RulesNoted rules.now n M
+fn put_entries(numbers: &mut [u64; layout::NUMBERS], rules: &[Note; layout::RULES], n: usize)
+    requires { n ≤ 512 }
+    ensures { (M : Table) → RulesNoted rules.now n M
         → ((k : ℕ) → k < M.states * symbols_most → get_or numbers.old (grid_from + k) 0 ≡ 0)
         → NumbersPut (entries_from M 0) grid_from (M.states * symbols_most) numbers.old numbers.new }
-    ensures numbers_len { length numbers.new ≡ numbers_size }
 {
-    let mut i = n;
-    while 0 < i {
-        i -= 1;
-        numbers[GRID + key_of(rules[2 * i])] = rules[2 * i + 1];
+    for i in (0..n).rev() {
+        numbers[GRID + key_of(rules[i].row)] = rules[i].entry;
     }
 }
 
 // Stores the numbers of a table with this head and these rules.
-pub fn fill(numbers: &mut [u64], head: Head, rules: &[u64])
-    requires numbers_len { (length numbers.old ≡ numbers_size) × (length rules.now ≡ 1024) }
-    requires states_bound { (head.states ≤ 64) × (head.rules ≤ 512) }
+pub fn fill(numbers: &mut [u64; layout::NUMBERS], head: Head, rules: &[Note; layout::RULES])
+    requires { (head.states ≤ 64) × (head.rules ≤ 512) }
     ensures { (M : Table) → head ≡ head_of M → RulesNoted rules.now head.rules M
         → Filled numbers.old numbers.new M }
 {

@@ -1,5 +1,5 @@
 -- Laws of the number of letters 20: of no letter, of one letter more, of one piece more.
-use mathlib.Core.Path.{◌≡◌, refl, ap}
+use mathlib.Core.Path.{◌≡◌, refl, ap, ◌∙◌}
 use mathlib.Core.Bool.{Bool, true, false}
 use mathlib.Core.List.{[], ◌∷◌}
 use Prim.Native.Nat.{ℕ, suc, ◌+◌, ◌-◌, ◌<◌, ◌≤◌}
@@ -36,9 +36,11 @@ from : (u : Word) (at : ℕ) → take (length u - at) (drop at u) ≡ drop at u
 from u at = take_all (length u - at) (drop at u) (omega (arith, length-drop at u))
 
 -- The count after one piece more.
-pub piece : (u : Word) (at k n p : ℕ) → n ≡ suc (spaces (take at u)) → p ≡ spaces (take k (take (length u - at) (drop at u)))
+pub piece : (u : Word) (at k n p : ℕ) → n ≡ suc (spaces (take at u)) → p ≡ spaces (take (at + k - at) (drop at u))
     → n + p ≡ suc (spaces (take (at + k) u))
-piece u at k n p e f = rw (take-add at k u, spaces_append) (omega (arith, rw (from u at) at f))
+piece u at k n p e f =
+    let len : at + k - at ≡ k = omega arith in
+    rw (take-add at k u, spaces_append) (omega (arith, e, f ∙ ap (λ (m : ℕ). spaces (take m (drop at u))) len))
 
 -- The count after the last piece.
 pub all : (u : Word) (at n p : ℕ) → n ≡ suc (spaces (take at u)) → p ≡ spaces (take (length u - at) (drop at u)) → n + p ≡ terms u

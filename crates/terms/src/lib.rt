@@ -5,52 +5,40 @@
 ghost use Rattle.std.specs.Prelude.{◌≡◌, [], ◌∷◌, ◌≤◌, length, take};
 ghost use Rattle.words.specs.Word.{spaces, terms};
 
+// The letters of a piece, few enough for a byte.
+const PIECE: usize = 224;
+
 // 1 for letter 20, 0 for any other.
 fn one(letter: u8) -> u8
     ensures { (result ≡ spaces (letter ∷ [])) × (result ≤ 1) }
 {
-    (letter == 32) as u8
+    u8::from(letter == 32)
 }
 
-// How many of the first 224 letters are letter 20.
-fn whole(letters: &[u8]) -> u8
-    requires { 224 ≤ length letters.now }
-    ensures { result ≡ spaces (take 224 letters.now) }
+// How many letters of a piece, or of what is left behind the last, are letter 20.
+fn spaces_in(piece: &[u8]) -> u8
+    requires { length piece.now ≤ 224 }
+    ensures { result ≡ spaces piece.now }
 {
     let mut n: u8 = 0;
-    let mut i = 0;
-    while i < 224 {
-        n += one(letters[i]);
-        i += 1;
+    for &letter in piece {
+        n += one(letter);
     }
     n
 }
 
-// How many letters of a last piece, which is shorter, are letter 20.
-fn last(rest: &[u8]) -> u8
-    requires { length rest.now ≤ 224 }
-    ensures { result ≡ spaces rest.now }
-{
-    let mut n: u8 = 0;
-    let mut i = 0;
-    while i < rest.len() {
-        n += one(rest[i]);
-        i += 1;
-    }
-    n
-}
-
-// The number of a word's terms.
+// The number of a word's terms. With `chunks` in place of the index a word of 1,000 letters took a quarter more instructions,
+// and with a range of pieces each call six more.
 pub fn terms_of(word: &[u8]) -> usize
     ensures { result ≡ terms word.now }
 {
     let mut n: usize = 1;
     let mut at = 0;
-    while 224 <= word.len() - at {
-        n += whole(&word[at..]) as usize;
-        at += 224;
+    while PIECE <= word.len() - at {
+        n += usize::from(spaces_in(&word[at..at + PIECE]));
+        at += PIECE;
     }
-    n + last(&word[at..]) as usize
+    n + usize::from(spaces_in(&word[at..]))
 }
 
 // The number of terms of the word that stands first in a room, with so many letters.

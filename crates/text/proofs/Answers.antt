@@ -1,4 +1,4 @@
--- Texts worked out in the characters of document 01: its digits, a table that is read and written, and refusals on both sides of each line.
+-- Texts worked out in the characters of the specification: its digits, a table that is read and written, and refusals on both sides of each line.
 -- The longest text is in Reading: text_most_lem, text_over.
 use mathlib.Core.Path.{◌≡◌, refl}
 use mathlib.Core.Bool.{true, false}

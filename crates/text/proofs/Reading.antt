@@ -83,7 +83,7 @@ pub read_fit : (t : List ℕ) → 1 ≤ length t → length t ≤ text_most → 
 unfolding read_table
 read_fit t h k = rw (ne_eqb (length t) 0 (λ e. omega arith), le-ltb text_most (length t) k)
 
--- By document 01's number: 32,768 bytes are read, and 32,769 are not.
+-- By the specification's number: 32,768 bytes are read, and 32,769 are not.
 text_most_lem : (t : List ℕ) → length t ≡ 32768 → read_table t ≡ read_lines (symbols []) 0 (lines_of t)
 text_most_lem t h = read_fit t (omega arith) (omega arith)
 

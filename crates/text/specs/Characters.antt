@@ -1,4 +1,4 @@
--- Texts as document 01 prints them, for worked cases: nothing here reads or writes a digit. Definitions only.
+-- Texts as the specification prints them, for worked cases: nothing here reads or writes a digit. Definitions only.
 use Rattle.std.specs.Prelude.{List, [], ◌∷◌, ℕ}
 use Prim.Native.Char.{code}
 use Prim.Native.String.{String, [] as []ˢ, ◌∷◌ as ◌∷ˢ◌}

@@ -1,4 +1,4 @@
--- The numbers of document 01, "Table text": the most of each. Definitions only.
+-- The numbers of the specification, "Table text": the most of each. Definitions only.
 use Rattle.std.specs.Prelude.{ℕ}
 
 -- Bytes of a text.

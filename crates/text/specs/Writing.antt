@@ -50,7 +50,7 @@ pub record Short (u : Word) : Type 0 where
 abbrev pub ShortRow : Row → Type 0
 ShortRow r = Short r.rule.first × Each (λ c cs. Short c.after) r.rule.rest
 
--- The table is within the limits of document 01, "Numbers".
+-- The table is within the limits of the specification, "Numbers".
 pub record Limited (M : Table) : Type 0 where
   pub made : WellMade M
   pub some_symbol : 1 ≤ length M.arities

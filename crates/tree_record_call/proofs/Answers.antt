@@ -20,7 +20,6 @@ use Rattle.records.proofs.Counter.{plain}
 use Rattle.records.proofs.Loop.{bytes_written}
 use Rattle.promises.specs.Room.{into}
 use Rattle.promises.specs.Records.{record_of_tree}
-use Rattle.spelling.specs.declared.Spelled.{Spelled}
 use Rattle.spelling.specs.Spells.{Spells}
 use Rattle.tree_record_call.specs.ImageTold.{image_told, all_but_last, stream_of}
 use Rattle.tree_record_call.proofs.Images.{front_long}
@@ -69,7 +68,7 @@ module _ (M : Table) (bs : List ℕ) where
 -- ---- the room
 
 -- What is told of an output is told of an answer that gives it.
-pub given_spells : (R R' : List ℕ) {o : Reply (List ℕ)} {out : List ℕ} {r : Spelled} → o ≡ given out → Spells (into (length R) (given out)) R R' r
+pub given_spells : (R R' : List ℕ) {o : Reply (List ℕ)} {out : List ℕ} {r : Reply ℕ} → o ≡ given out → Spells (into (length R) (given out)) R R' r
     → Spells (into (length R) o) R R' r
 given_spells R R' {r = r} e h = subst⁻¹ (λ (z : Reply (List ℕ)). Spells (into (length R) z) R R' r) e h
 

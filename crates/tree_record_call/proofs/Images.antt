@@ -21,8 +21,6 @@ use Rattle.records.proofs.Loop.{Below, check_unspelled}
 use Rattle.records.proofs.Ranked.{ranked_read}
 use Rattle.records.proofs.Sound.{read_sound}
 use Rattle.records.proofs.Symbols.{last_given}
-use Rattle.image_levels.specs.declared.ImageLevels.{ImageLevels}
-use Rattle.image_levels.specs.LevelsTold.{levels_told}
 use Rattle.tree_record_call.specs.ImageTold.{image_told, all_but_last, ImageBytes}
 use Rattle.tree_record_call.proofs.Low.{check_low}
 
@@ -79,10 +77,10 @@ found_told ar a bs r s h = rw (← h.image) (go (read_tree ar (preorder (image a
     go (refusal x) e = refl
 
 -- So what is told of the levels of each record that it may be the image of is told of it.
-pub levels_image : (ar : List ℕ) (a : ℕ) (bs : List ℕ) (k : ImageLevels) → a ≤ 255 → 0 < length bs → last_symbol ar ≡ given a → ImageBytes a bs
+pub levels_image : (ar : List ℕ) (a : ℕ) (bs : List ℕ) (k : Reply (Unit {0})) → a ≤ 255 → 0 < length bs → last_symbol ar ≡ given a → ImageBytes a bs
     → ((r : Element) → RecordSymbols ar a → Labels a r → all_but_last bs ≡ map (spell a) (bytes_of r)
-    → levels_told k ≡ mapped (λ t. tt) (read_tree ar (preorder (image a r))))
-    → levels_told k ≡ image_told ar a bs
+    → k ≡ mapped (λ t. tt) (read_tree ar (preorder (image a r))))
+    → k ≡ image_told ar a bs
 levels_image ar a bs k m l e h told =
     let f = image_found a bs m l h in
     let s = (last_given ar a).0 e in

@@ -8,7 +8,7 @@ use borrow.Author.Tests.{eqb-true, ltb-true}
 use lib.Dec.{eqb, ltb}
 use lib.ListN.{length, get_or, take, length-take}
 use lib.Seq.{get_or-take}
-use Rattle.words.specs.Reply.{given, refuse_if}
+use Rattle.words.specs.Reply.{Reply, given, refuse_if}
 use Rattle.words.proofs.Replies.{given_refused, then_given}
 use Rattle.machine.specs.Machine.{Tree, Forest, node, ∅, ◌▸◌}
 use Rattle.machine.specs.Ranks.{Ranked, Rankeds}
@@ -23,7 +23,8 @@ step_low : (a : ℕ) (m m' : StreamMarks) (p b : ℕ) → step# a a m p b ≡ gi
 step_low a m m' p b h = go (eqb b a) (ltb b a) refl refl h
   where
     go : (x y : Bool) → eqb b a ≡ x → ltb b a ≡ y
-        → elim x [ true ↦ closing# m.open_now p | false ↦ refuse_if (not y) 21 p (opening# m.open_now m.begun p) ] ≡ given m' → b ≤ a
+        → ◌≡◌ {A = Reply StreamMarks} (elim x [ true ↦ closing# m.open_now p | false ↦ refuse_if (not y) 21 p (opening# m.open_now m.begun p) ]) (given m')
+        → b ≤ a
     go true y e f k = omega (arith, eqb-true b a e)
     go false true e f k = omega (arith, ltb-true b a f)
     go false false e f k = absurd (given_refused m' 21 p (sym k))

@@ -12,9 +12,7 @@ use Rattle.machine.specs.Machine.{Tree}
 use Rattle.trees.specs.Preorder.{preorder}
 use Rattle.trees.specs.Shape.{read_tree}
 use Rattle.trees.proofs.Whole.{read_sound}
-use Rattle.shape.specs.declared.Shape.{Shape}
-use Rattle.shape.specs.declared.Shape.TheVariants as shape
-use Rattle.shape.specs.Shaped.{Checked}
+use Rattle.shape.specs.Shaped.{size}
 use Rattle.records.specs.Records.{Element}
 use Rattle.records.specs.Symbols.{RecordSymbols, last_symbol}
 use Rattle.records.specs.Back.{back}
@@ -28,22 +26,22 @@ use Rattle.tree_record_call.specs.ImageTold.{image_told, all_but_last}
 use Rattle.tree_record_call.proofs.Low.{tree_low}
 
 -- A shape that is refused: so are the bytes.
-pub shape_refused : (ar : List ℕ) (a : ℕ) (bs : List ℕ) {h : Shape} {x : No} → Checked (read_tree ar bs) h → h ≡ shape.Refused x
+pub shape_refused : (ar : List ℕ) (a : ℕ) (bs : List ℕ) {h : Reply ℕ} {x : No} → h ≡ size (read_tree ar bs) → h ≡ refusal x
     → refusal x ≡ image_told ar a bs
 unfolding image_told
-shape_refused ar a bs {h} {x} k e = go (read_tree ar bs) (subst (Checked (read_tree ar bs)) e k)
+shape_refused ar a bs {h} {x} k e = go (read_tree ar bs) (sym e ∙ k)
   where
-    go : (o : Reply Tree) → Checked o (shape.Refused x) → refusal x ≡ plain (o then back a)
-    go (given t) k = absurd k
-    go (refusal y) k = ap refusal k
+    go : (o : Reply Tree) → refusal x ≡ size o → refusal x ≡ plain (o then back a)
+    go (given t) i = absurd (given_refused (length (preorder t)) x.number x.place (sym i))
+    go (refusal y) i = ap refusal (refusal_injective {A = ℕ} x y i)
 
 -- A shape that is right: a tree is read.
-shape_right : (ar bs : List ℕ) {h : Shape} {n : ℕ} → Checked (read_tree ar bs) h → h ≡ shape.Ends n → (t : Tree) × (read_tree ar bs ≡ given t)
-shape_right ar bs {h} {n} k e = go (read_tree ar bs) refl (subst (Checked (read_tree ar bs)) e k)
+shape_right : (ar bs : List ℕ) {h : Reply ℕ} {n : ℕ} → h ≡ size (read_tree ar bs) → h ≡ given n → (t : Tree) × (read_tree ar bs ≡ given t)
+shape_right ar bs {h} {n} k e = go (read_tree ar bs) refl (sym e ∙ k)
   where
-    go : (o : Reply Tree) → read_tree ar bs ≡ o → Checked o (shape.Ends n) → (t : Tree) × (read_tree ar bs ≡ given t)
-    go (given t) i k = (t, i)
-    go (refusal y) i k = absurd k
+    go : (o : Reply Tree) → read_tree ar bs ≡ o → given n ≡ size o → (t : Tree) × (read_tree ar bs ≡ given t)
+    go (given t) i j = (t, i)
+    go (refusal y) i j = absurd (given_refused n y.number y.place j)
 
 -- 24 at a place, retold, is no yes, and a no at that place.
 retold_no : (p : ℕ) → given tt ≡ plain (retold_at p) → ⊥
@@ -72,8 +70,8 @@ stream_told_lem ar a bs t s m l e =
     let low : Below a (all_but_last bs) = rw w.0 (tree_low ar a t (length (preorder t) - 1) s.many w.1) in
     check_unspelled a (all_but_last bs) m low ∙ bytes_counter ar a s bs (length bs - 1) t m (omega arith) e
 
-module _ (ar : List ℕ) (a : ℕ) (bs : List ℕ) {h : Shape} {n : ℕ} (e : last_symbol ar ≡ given a) (m : a ≤ 255) (l : 0 < length bs)
-    (k : Checked (read_tree ar bs) h) (i : h ≡ shape.Ends n) where
+module _ (ar : List ℕ) (a : ℕ) (bs : List ℕ) {h : Reply ℕ} {n : ℕ} (e : last_symbol ar ≡ given a) (m : a ≤ 255) (l : 0 < length bs)
+    (k : h ≡ size (read_tree ar bs)) (i : h ≡ given n) where
   -- Where the shape is right, a yes of the stream is one for the tree, and a no is 24 there.
   pub stream_whole : given tt ≡ check_stream a a (all_but_last bs) → given tt ≡ image_told ar a bs
   unfolding image_told

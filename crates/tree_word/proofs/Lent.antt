@@ -11,6 +11,7 @@ use Rattle.words.specs.Word.{Word}
 use Rattle.machine.specs.Machine.{Tree, Table}
 use Rattle.trees.specs.Shape.{depth_most}
 use Rattle.word_writer.specs.WordWritten.{Due, Tidy}
+use Rattle.word_writer.specs.declared.Written.{Written}
 use Rattle.word_writer.proofs.Writing.{NodeWrites}
 
 -- A list that is no longer than w and has w in front is w.
@@ -67,7 +68,7 @@ module _ {F P : List ℕ} {letters : ℕ} {M : Table} {q : ℕ} {t : Tree} {w : 
   due_in room h = record { bytes = d.bytes; planned = d.planned; levels = d.levels; inside = d.inside; word = d.word; fits = omega arith }
 
   -- Exactly the word's part was lent.
-  pub exactly_put : {s : ℕ} (R ys : List ℕ) (from : ℕ) → from + letters ≤ length R
+  pub exactly_put : {s : Written} (R ys : List ℕ) (from : ℕ) → from + letters ≤ length R
       → NodeWrites F P depth_most 0 (length (take (from + letters - from) (drop from R))) ys s
       → Tidy (take (from + letters - from) (drop from R)) ys s → put_mid from (from + letters - from) R ys ≡ take from R ++ w ++ drop (from + letters) R
   exactly_put R ys from h wrote tidy =
@@ -76,7 +77,7 @@ module _ {F P : List ℕ} {letters : ℕ} {M : Table} {q : ℕ} {t : Tree} {w : 
       lent_exactly R ys w from end (omega arith) (wrote M q t w (due_in _ (omega (arith, l)))).front h tidy.long
 
   -- 32 bytes more were lent, and put back.
-  pub more_put : {s : ℕ} (R R' ys piece : List ℕ) (from : ℕ) → from + letters + 32 ≤ length R
+  pub more_put : {s : Written} (R R' ys piece : List ℕ) (from : ℕ) → from + letters + 32 ≤ length R
       → piece ≡ take 32 (drop (from + letters) R)
       → NodeWrites F P depth_most 0 (length (take (from + letters + 32 - from) (drop from R))) ys s
       → Tidy (take (from + letters + 32 - from) (drop from R)) ys s

@@ -86,7 +86,7 @@ pub read_tree_lem : (ar bs : List ℕ) (t : Tree)
     → (read_tree ar bs ≡ given t) ↔ ((bs ≡ preorder t) × Ranked ar t × Levels t depth_most × (length bs ≤ tree_most))
 read_tree_lem ar bs t = (read_sound ar bs t, λ h. read_complete ar bs t h.0 h.1 h.2 h.3)
 
--- ---- document 01's numbers
+-- ---- the specification's numbers
 
 -- 32,768 bytes are not too many, and 32,769 are.
 bytes_most : (bs : List ℕ) → length bs ≡ 32768 → wrong_size bs ≡ false

@@ -1,7 +1,5 @@
 -- The laws of the judgement of an opened table:
---   Order      judge_found, judge_next: the checks in number order
 --   Promise    checks_judged: what the checks judge is the verdict of the table
 --   Opened     done_judged: what the code has in the end is the verdict of every table that is opened in the bytes and the numbers
-pub mod Order
 pub mod Promise
 pub mod Opened

@@ -13,23 +13,24 @@ use Rattle.end_laws.specs.Meaning.{Witnessed}
 use Rattle.end_laws.specs.Companion.{judge_by}
 use Rattle.layout.specs.Layout.{Opened, Meant, MeantBy}
 use Rattle.visit.specs.Reaches.{Reaches}
-use Rattle.summary.specs.Codes.{K}
+use Rattle.summary.specs.Codes.{untold, K}
+use Rattle.summary.specs.declared.Summary.{Summary}
 use Rattle.empty_words.specs.Blank.{Blanks, EmptyTold, AllListed}
 use Rattle.empty_words.proofs.Empty.{blanks_witnessed}
 use Rattle.end_summaries.specs.Steps.{Settles}
 use Rattle.checks.specs.Checks.{all_checks}
 use Rattle.verdict.proofs.Promise.{AllReached, SummariesKnown, checks_judged}
 
--- What is kept for the states in the beginning is 0 for each.
-pub begun_zeros : (q : ℕ) → get_or {A = ℕ} (replicate states_most 0) q 0 ≡ 0
-begun_zeros q = elim (dec_lt q states_most) [
-  | yes l ↦ get_or-replicate {A = ℕ} states_most q 0 0 l
-  | no l ↦ get_or-eq_default (replicate states_most 0) 0 {n = q} (omega (arith, length-replicate {A = ℕ} states_most 0))
+-- No word is known of any state in the beginning.
+pub begun_untold : (q : ℕ) → get_or {A = Summary} (replicate states_most untold) q untold ≡ untold
+begun_untold q = elim (dec_lt q states_most) [
+  | yes l ↦ get_or-replicate {A = Summary} states_most q untold untold l
+  | no l ↦ get_or-eq_default (replicate states_most untold) untold {n = q} (omega (arith, length-replicate {A = Summary} states_most untold))
 ]
 
--- What the code has in the end: the marks m, the first n states of O, the states zs with the empty word, the summaries xs at the left and ys at the right,
--- and the verdict v by the checks.
-pub record Done (F I m O : List ℕ) (n : ℕ) (zs xs ys : List ℕ) (v : Verdict) : Type 0 where
+-- What the code has in the end: the marks m, the first n states of O, the states zs with the empty word,
+-- the summaries xs at the left and ys at the right, and the verdict v by the checks.
+pub record Done (F I m O : List ℕ) (n : ℕ) (zs xs ys : List Summary) (v : Verdict) : Type 0 where
   pub reaches : MeantBy I (λ M. Reaches M m O n)
   pub blanks : MeantBy I (λ M. Blanks M zs)
   pub empties : MeantBy I (λ M. AllListed M O n → EmptyTold M (K zs))
@@ -37,7 +38,7 @@ pub record Done (F I m O : List ℕ) (n : ℕ) (zs xs ys : List ℕ) (v : Verdic
   pub rights : Settles F I O n right zs ys
   pub verdict : Meant F I (λ M. v ≡ judge_by (all_checks M m xs ys))
 
-module _ {F I m O : List ℕ} {n : ℕ} {zs xs ys : List ℕ} {v : Verdict} (d : Done F I m O n zs xs ys v) (M : Table) (o : Opened F I M) where
+module _ {F I m O : List ℕ} {n : ℕ} {zs xs ys : List Summary} {v : Verdict} (d : Done F I m O n zs xs ys v) (M : Table) (o : Opened F I M) where
   -- The states that are reached are marked and listed.
   met : Reaches M m O n
   met = d.reaches F M o

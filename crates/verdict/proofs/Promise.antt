@@ -19,6 +19,7 @@ use Rattle.end_laws.proofs.Told.{lives_word, dead_word, clean_state, unclean_sta
 use Rattle.end_laws.proofs.Local.{all_apart, free_left, unfree_left, free_start, stuck_start}
 use Rattle.end_laws.proofs.Companion.{CheckTells, judged_by_lem}
 use Rattle.summary.specs.Codes.{K}
+use Rattle.summary.specs.declared.Summary.{Summary}
 use Rattle.checks.specs.Checks.{check_at, all_checks}
 
 -- Every state is reached.
@@ -26,7 +27,7 @@ abbrev pub AllReached : Table → Type 0
 AllReached M = (q : ℕ) → q < M.states → Reached M q
 
 -- What is known of a table in the end: which states are reached, and the summaries at both sides, which cover all words if every state is.
-pub record SummariesKnown (M : Table) (m xs ys : List ℕ) : Type 0 where
+pub record SummariesKnown (M : Table) (m : List ℕ) (xs ys : List Summary) : Type 0 where
   pub made : WellMade M
   pub marked : (q : ℕ) → (get_or m q 0 ≡ 0 → ⊥) → Reached M q
   pub reached : (q : ℕ) → Reached M q → get_or m q 0 ≡ 0 → ⊥
@@ -35,7 +36,7 @@ pub record SummariesKnown (M : Table) (m xs ys : List ℕ) : Type 0 where
   pub shown_right : Witnessed M right (K ys)
   pub fits_right : AllReached M → Covering M right (K ys)
 
-module _ (M : Table) (m xs ys : List ℕ) (k : SummariesKnown M m xs ys) where
+module _ (M : Table) (m : List ℕ) (xs ys : List Summary) (k : SummariesKnown M m xs ys) where
   -- 13
   tells_reached : CheckTells (check_at 13 M m xs ys) (record { number = 13; places = M.states; holds = Reached M })
   tells_reached = record {

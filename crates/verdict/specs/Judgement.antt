@@ -1,9 +1,8 @@
 -- What the judgement answers. Definitions only.
-use Rattle.machine.specs.Verdict.{Verdict, earliest, late_as}
-use Rattle.verdict.specs.declared.Judgement.{Judgement}
-use Rattle.verdict.specs.declared.Judgement.TheVariants.{Earliest, Late}
+use Rattle.machine.specs.Verdict.{Verdict}
+use Rattle.words.specs.Reply.{Reply}
+use Rattle.checks.specs.Checks.{verdict_by}
 
--- The verdict that is answered.
-abbrev pub verdict_of : Judgement → Verdict
-verdict_of Earliest = earliest
-verdict_of (Late x) = late_as x
+-- The verdict that is answered: earliest for a yes, late as it says for a no.
+abbrev pub verdict_of : Reply (Unit {0}) → Verdict
+verdict_of r = verdict_by r

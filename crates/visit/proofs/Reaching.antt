@@ -2,11 +2,11 @@
 use mathlib.Core.Path.{◌≡◌, sym, ap, subst, ◌∙◌}
 use mathlib.Core.Bool.{true, false}
 use mathlib.Core.List.{List}
-use Prim.Native.Nat.{ℕ, zero, ◌+◌, ◌<◌}
-use native.Mathlib.Decide.{dec_lt, ℕ_discrete}
+use Prim.Native.Nat.{ℕ, zero, ◌<◌}
+use native.Mathlib.Decide.{dec_lt}
 use native.Mathlib.Omega.{arith}
-use lib.ListN.{length, get_or, set, get_or-eq_default}
-use lib.Seq.{get_or-take, get_or-set_same, get_or-set_other}
+use lib.ListN.{length, get_or, take, get_or-eq_default}
+use lib.Seq.{get_or-take}
 use borrow.Author.Tests.{eqb-true, eqb-false}
 use Rattle.machine.specs.Machine.{Table}
 use Rattle.machine.specs.Earliest.{Reached}
@@ -23,18 +23,15 @@ use Rattle.visit.specs.Reaches.{Own, Marked, Reaches}
 use Rattle.visit_queue.proofs.Marks.{mark_known, marked_known}
 use Rattle.visit.proofs.Visits.{class_self}
 
--- One entry more is filled with its value g.
-pub fill_more : (g : ℕ → ℕ) (N : List ℕ) (q v : ℕ) → q < length N → v ≡ g q → ((p : ℕ) → p < q → get_or N p 0 ≡ g p)
-    → (p : ℕ) → p < q + 1 → get_or (set N q v) p 0 ≡ g p
-fill_more g N q v l e h p k =
-    elim (ℕ_discrete p q) [
-      | yes d ↦ ap (λ (x : ℕ). get_or (set N q v) x 0) d ∙ get_or-set_same N q v 0 l ∙ e ∙ ap g (sym d)
-      | no d ↦ get_or-set_other N q p v 0 d ∙ h p (omega arith)
-    ]
-
 -- Where all states are, every class is below their number.
 pub own_low : (rep : List ℕ) → length rep ≡ states_most → Own rep states_most → (q : ℕ) → get_or rep q 0 < states_most
 own_low rep e own q = elim (dec_lt q states_most) [ yes b ↦ omega (arith, own q b) | no b ↦ omega (arith, get_or-eq_default rep 0 {n = q} (omega arith)) ]
+
+-- Marks behind those of all classes tell nothing.
+pub listing_low : {rep seen O K : List ℕ} {n : ℕ} → ((q : ℕ) → get_or rep q 0 < states_most) → Listing rep seen O K n
+    → Listing rep seen O (take states_most K) n
+listing_low {rep} {seen} {O} {K} {n} low l =
+    record { count = l.count; listed = l.listed; marks = λ q. get_or-take states_most K (get_or rep q 0) 0 (low q) ∙ l.marks q }
 
 module _ {F I : List ℕ} {M : Table} (o : Opened F I M) (rep : List ℕ) (own : Own rep states_most) where
   -- States of one class are one.

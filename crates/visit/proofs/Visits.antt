@@ -4,7 +4,7 @@ use mathlib.Core.List.{List, [], ◌∷◌}
 use Prim.Native.Nat.{ℕ, zero, suc, ◌+◌, ◌<◌, ◌≤◌}
 use native.Mathlib.Numerals.{add-one}
 use native.Mathlib.Omega.{arith}
-use lib.ListN.{length, get_or}
+use lib.ListN.{length, get_or, take}
 use lib.Seq.{get_or-take}
 use borrow.Author.Tests.{eq-eqb}
 use Rattle.machine.specs.Machine.{Table}
@@ -13,7 +13,8 @@ use Rattle.form_laws.specs.Listed.{Selfsame, kids}
 use Rattle.form_laws.proofs.Visit.{Visited, visited_start, visited_step, visited_length}
 use Rattle.form_laws.proofs.Order.{visit_next, visit_done, order_enough}
 use Rattle.layout.specs.Layout.{Opened}
-use Rattle.visit_queue.specs.Queue.{by_rep, Listing, VisitQueue, QueueHolds, queue_of, StatesMet}
+use Rattle.visit_queue.specs.Queue.{by_rep, QueueHolds, NoneMet, StatesMet}
+use Rattle.visit_queue.specs.declared.queue.Queue.{Queue}
 use Rattle.visit_queue.proofs.Marks.{mark_fresh, meet_one_new}
 
 -- By classes each state is the same as itself.
@@ -21,32 +22,35 @@ pub class_self : (rep : List ℕ) (M : Table) → Selfsame (by_rep rep) M
 class_self rep M q l = eq-eqb (get_or rep q 0) (get_or rep q 0) refl
 
 -- What holds once the states below number i have been taken: the queue holds a list, and the visit from there on gives the order.
-pub record Under (rep : List ℕ) (M : Table) (a : VisitQueue) (i : ℕ) : Type 0 where
+pub record Under (rep : List ℕ) (M : Table) (a : Queue) (i : ℕ) : Type 0 where
   pub seen : List ℕ
   pub queued : QueueHolds rep seen a
   pub visited : Visited (by_rep rep) M i seen
   pub rest : (k : ℕ) → M.states ≤ i + k → order (by_rep rep) M ≡ visit (by_rep rep) M.rows k i seen
 
--- No state is listed where no class has a mark.
-listing_none : (rep O K : List ℕ) → ((i : ℕ) → get_or K i 0 ≡ 0) → Listing rep [] O K 0
-listing_none rep O K z = record { count = refl; listed = refl; marks = λ q. z (get_or rep q 0) ∙ sym (mark_fresh (by_rep rep) [] q (omega arith)) }
+-- A fresh queue holds no state.
+fresh_holds : (rep : List ℕ) {a : Queue} → NoneMet a → QueueHolds rep [] a
+fresh_holds rep {a} f =
+    record {
+      count = f.none;
+      listed = ap (λ (k : ℕ). take k a.order) f.none;
+      marks = λ q. f.unmarked (get_or rep q 0) ∙ sym (mark_fresh (by_rep rep) [] q (omega arith));
+    }
 
 module _ (rep : List ℕ) {F I : List ℕ} {M : Table} (o : Opened F I M) where
   -- The initial state is listed first.
-  pub under_start : {O K : List ℕ} {a : VisitQueue} (q : ℕ) → q ≡ M.start → ((i : ℕ) → get_or K i 0 ≡ 0)
-      → StatesMet rep (q ∷ []) (queue_of O K 0) a → Under rep M a 0
-  under_start {O} {K} {a} q e z f =
+  pub under_start : {a b : Queue} (q : ℕ) → q ≡ M.start → NoneMet a → StatesMet rep (q ∷ []) a b → Under rep M b 0
+  under_start {a} {b} q e z f =
       let d : meet (by_rep rep) [] (q ∷ []) ≡ q ∷ [] = meet_one_new (by_rep rep) [] q (omega arith) in
       record {
         seen = M.start ∷ [];
-        queued = subst (λ (s : List ℕ). QueueHolds rep s a) (d ∙ ap (λ (s : ℕ). s ∷ []) e)
-            (f.queued [] (listing_none rep O K z) (omega (arith, ap length d)));
+        queued = subst (λ (s : List ℕ). QueueHolds rep s b) (d ∙ ap (λ (s : ℕ). s ∷ []) e) (f.queued [] (fresh_holds rep z) (omega (arith, ap length d)));
         visited = visited_start (by_rep rep) M o.limited.made (class_self rep M);
         rest = λ k h. order_enough (by_rep rep) M o.limited.made (class_self rep M) k (omega arith);
       }
 
   -- The next state is taken.
-  pub under_next : {a b : VisitQueue} {i : ℕ} (q : ℕ) → Under rep M a i → i < a.count → q ≡ get_or a.order i 0 → StatesMet rep (kids M q) a b
+  pub under_next : {a b : Queue} {i : ℕ} (q : ℕ) → Under rep M a i → i < a.count → q ≡ get_or a.order i 0 → StatesMet rep (kids M q) a b
       → Under rep M b (i + 1)
   under_next {a} {b} {i} q u h e f =
       let same = by_rep rep in
@@ -66,7 +70,7 @@ module _ (rep : List ℕ) {F I : List ℕ} {M : Table} (o : Opened F I M) where
       })
 
   -- All listed states have been taken.
-  pub under_done : {a : VisitQueue} {i : ℕ} → Under rep M a i → a.count ≤ i → QueueHolds rep (order (by_rep rep) M) a
+  pub under_done : {a : Queue} {i : ℕ} → Under rep M a i → a.count ≤ i → QueueHolds rep (order (by_rep rep) M) a
   under_done {a} {i} u h =
       subst (λ (s : List ℕ). QueueHolds rep s a)
       (sym (u.rest M.states (omega arith) ∙ visit_done (by_rep rep) M.rows M.states i u.seen (omega (arith, u.queued.count)))) u.queued

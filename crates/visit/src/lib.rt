@@ -2,53 +2,45 @@
 // The form walks by classes of states with the same words, the judgement with each state as a class of its own.
 #![tactic(auto)]
 
-ghost use Rattle.std.specs.Prelude.{◌≡◌, ℕ, ◌≤◌, length, get_or};
+ghost use Rattle.std.specs.Prelude.{take};
 ghost use Rattle.text.specs.Limits.{states_most};
 ghost use Rattle.layout.specs.Layout.{MeantBy};
-ghost use Rattle.visit_queue.specs.Queue.{QueueRoom};
 ghost use Rattle.visit.specs.Visiting.{Visits};
 ghost use Rattle.visit.specs.Reaches.{Own, Reaches};
 
-use layout::{STATES, byte, start, wide};
-use visit_queue::{meet, meet_rules};
+use layout::{STATES, start};
+use visit_queue::Queue;
 
-// Visits the states from the initial one on, in order of their numbers, where no class is known yet.
-// The answer is how many states have a number.
-pub fn visit(numbers: &[u64], rep: &[u8], order: &mut [u8], known: &mut [u8]) -> usize
-    requires { QueueRoom rep.now order.old known.old }
-    ensures upper_bound { result ≤ states_most }
-    ensures visits { Visits numbers.now rep.now known.old order.new known.new result }
+// Visits the states from the initial one on, in order of their numbers, where `rep` tells their classes.
+pub fn visit(numbers: &[u64], rep: &[u8]) -> Queue
+    ensures { Visits numbers.now rep.now result }
 {
-    let first = start(numbers);
-    let mut n = meet(rep, first, order, known, 0);
+    let mut queue = Queue::new();
+    queue.meet(rep, start(numbers));
     let mut i = 0;
-    while i < n {
-        n = meet_rules(numbers, wide(byte(order, i)), rep, order, known, n);
+    // The queue grows while it is walked, so no range or iterator has its end.
+    while i < queue.count {
+        let q = usize::from(queue.order[i]);
+        queue.meet_rules(numbers, rep, q);
         i += 1;
     }
-    n
+    queue
 }
 
-// Makes each state a class of its own.
-fn make_own(rep: &mut [u8])
-    requires { length rep.old ≡ states_most }
-    ensures { Own rep.new states_most }
+// Each state as a class of its own.
+fn own() -> [u8; STATES]
+    ensures { Own result states_most }
 {
-    let mut q = 0;
-    while q < STATES {
-        rep[q] = q as u8;
-        q += 1;
+    let mut rep = [0u8; STATES];
+    for (q, class) in rep.iter_mut().enumerate() {
+        *class = q as u8;
     }
+    rep
 }
 
 // Visits the states that are reached from the initial one: lists them, and marks them with entries that are not 0.
-// The answer is how many there are.
-pub fn reach(numbers: &[u64], order: &mut [u8], marks: &mut [u8]) -> usize
-    requires { (length order.old ≡ states_most) × (length marks.old ≡ states_most) × ((q : ℕ) → get_or marks.old q 0 ≡ 0) }
-    ensures upper_bound { result ≤ states_most }
-    ensures meant_by { MeantBy numbers.now (λ M. Reaches M marks.new order.new result) }
+pub fn reach(numbers: &[u64]) -> Queue
+    ensures { MeantBy numbers.now (λ M. Reaches M (take states_most result.known) result.order result.count) }
 {
-    let mut own = [0u8; STATES];
-    make_own(&mut own);
-    visit(numbers, &own, order, marks)
+    visit(numbers, &own())
 }

@@ -2,11 +2,11 @@
 use mathlib.Core.Path.{◌≡◌, refl, sym, ap, subst, ◌∙◌}
 use mathlib.Core.Bool.{true, false}
 use mathlib.Core.List.{List, [], ◌∷◌, ◌++◌, Memᴰ}
-use Prim.Native.Nat.{ℕ, suc, ◌+◌, ◌<◌, ◌≤◌}
+use Prim.Native.Nat.{ℕ, zero, suc, ◌+◌, ◌<◌, ◌≤◌}
 use native.Mathlib.Decide.{ℕ_discrete}
 use native.Mathlib.Numerals.{add-one}
 use native.Mathlib.Omega.{arith}
-use lib.ListN.{length, get_or, set, take, length-append}
+use lib.ListN.{length, get_or, set, take, replicate, length-append}
 use lib.Seq.{get_or-set_same, get_or-set_other, take-suc-set}
 use borrow.Author.Tests.{lt-ltb, le-ltb, eq-eqb, ne_eqb}
 use Rattle.machine.specs.Form.{Test, number_in, meet}
@@ -14,7 +14,8 @@ use Rattle.form_laws.proofs.Lists.{mem_all}
 use Rattle.form_laws.proofs.Number.{Known, by_test, number_here, number_there, number_append, known_append}
 use Rattle.form_laws.proofs.Meet.{known_or, meet_old, meet_new, meet_grown, grown_length}
 use Rattle.text.specs.Limits.{states_most}
-use Rattle.visit_queue.specs.Queue.{by_rep, mark, Listing, queue_of, StatesMet}
+use Rattle.visit_queue.specs.Queue.{by_rep, mark, Listing, QueueHolds, StatesMet}
+use Rattle.visit_queue.specs.declared.queue.Queue.{Queue}
 
 module _ (same : Test) where
   -- A state that has no number in a list, and is the same as one put behind it, has that one's number.
@@ -88,53 +89,65 @@ module _ (same : Test) where
   unfolding meet
   meet_one_new seen q h = meet_new same seen q [] h
 
-module _ (rep : List ℕ) (q : ℕ) {O K : List ℕ} {n c : ℕ} (e : c ≡ get_or rep q 0) where
+-- A list of zeros has no other entry.
+pub zeros : (n i : ℕ) → get_or {A = ℕ} (replicate n 0) i 0 ≡ 0
+zeros zero i = refl
+zeros (suc n) zero = refl
+zeros (suc n) (suc i) = zeros n i
+
+module _ (rep : List ℕ) (q : ℕ) (a : Queue) {c : ℕ} (e : c ≡ get_or rep q 0) where
   -- The mark of a state's class c is the state's.
-  mark_at : (seen : List ℕ) → Listing rep seen O K n → get_or K c 0 ≡ mark (by_rep rep) seen q
-  mark_at seen l = ap (λ (k : ℕ). get_or K k 0) e ∙ l.marks q
+  mark_at : (seen : List ℕ) → QueueHolds rep seen a → get_or a.known c 0 ≡ mark (by_rep rep) seen q
+  mark_at seen l = ap (λ (k : ℕ). get_or a.known k 0) e ∙ l.marks q
 
   -- A state whose class has a mark is not added.
-  pub met_old : (get_or K c 0 ≡ 0 → ⊥) → StatesMet rep (q ∷ []) (queue_of O K n) (queue_of O K n)
+  pub met_old : (get_or a.known c 0 ≡ 0 → ⊥) → StatesMet rep (q ∷ []) a a
   met_old h =
       record {
         queued = λ seen l k.
             let d = meet_one_old (by_rep rep) seen q (marked_known (by_rep rep) seen q (λ z. h (mark_at seen l ∙ z))) in
-            subst (λ (s : List ℕ). Listing rep s O K n) (sym d) l;
+            subst (λ (s : List ℕ). QueueHolds rep s a) (sym d) l;
       }
 
-  module _ (z : get_or K c 0 ≡ 0) where
+  module _ (z : get_or a.known c 0 ≡ 0) where
     -- A state whose class has none is.
-    added : (seen : List ℕ) → Listing rep seen O K n → meet (by_rep rep) seen (q ∷ []) ≡ seen ++ q ∷ []
+    added : (seen : List ℕ) → QueueHolds rep seen a → meet (by_rep rep) seen (q ∷ []) ≡ seen ++ q ∷ []
     added seen l = meet_one_new (by_rep rep) seen q (unmarked_fresh (by_rep rep) seen q (sym (mark_at seen l) ∙ z))
 
     -- It would be one too many.
-    pub met_full : states_most ≤ n → StatesMet rep (q ∷ []) (queue_of O K n) (queue_of O K n)
+    pub met_full : states_most ≤ a.count → StatesMet rep (q ∷ []) a a
     met_full m = record { queued = λ seen l k. absurd (omega (arith, k, ap length (added seen l), length-append seen (q ∷ []), l.count)) }
 
     -- It is put behind the list, and its class is marked.
-    listing_new : (seen : List ℕ) → n < length O → c < length K → Listing rep seen O K n → Listing rep (seen ++ q ∷ []) (set O n q) (set K c (n + 1)) (n + 1)
+    listing_new : (seen : List ℕ) → a.count < length a.order → c < length a.known → QueueHolds rep seen a
+        → Listing rep (seen ++ q ∷ []) (set a.order a.count q) (set a.known c (a.count + 1)) (a.count + 1)
     listing_new seen lo lk l =
         record {
           count = omega (arith, length-append seen (q ∷ []), l.count);
-          listed = ap (λ (k : ℕ). take k (set O n q)) (add-one n) ∙ take-suc-set O n q lo ∙ ap (λ (s : List ℕ). s ++ q ∷ []) l.listed;
+          listed =
+              ap (λ (k : ℕ). take k (set a.order a.count q)) (add-one a.count) ∙ take-suc-set a.order a.count q lo
+              ∙ ap (λ (s : List ℕ). s ++ q ∷ []) l.listed;
           marks = λ p.
               elim (ℕ_discrete (get_or rep p 0) c) [
                 | yes d ↦
-                    ap (λ (k : ℕ). get_or (set K c (n + 1)) k 0) d ∙ get_or-set_same K c (n + 1) 0 lk ∙ number_of
-                    ∙ mark_last (by_rep rep) seen q p (sym (l.marks p) ∙ ap (λ (k : ℕ). get_or K k 0) d ∙ z)
+                    ap (λ (k : ℕ). get_or (set a.known c (a.count + 1)) k 0) d ∙ get_or-set_same a.known c (a.count + 1) 0 lk ∙ number_of
+                    ∙ mark_last (by_rep rep) seen q p (sym (l.marks p) ∙ ap (λ (k : ℕ). get_or a.known k 0) d ∙ z)
                     (eq-eqb (get_or rep q 0) (get_or rep p 0) (sym e ∙ sym d))
                 | no d ↦
-                    get_or-set_other K c (get_or rep p 0) (n + 1) 0 d ∙ l.marks p
+                    get_or-set_other a.known c (get_or rep p 0) (a.count + 1) 0 d ∙ l.marks p
                     ∙ mark_past (by_rep rep) seen q p (ne_eqb (get_or rep q 0) (get_or rep p 0) (λ i. d (sym i ∙ sym e)))
               ];
         }
       where
-        number_of : n + 1 ≡ suc (length seen)
+        number_of : a.count + 1 ≡ suc (length seen)
         number_of = omega (arith, l.count)
 
     -- It is added.
-    pub met_new : n < length O → c < length K → StatesMet rep (q ∷ []) (queue_of O K n) (queue_of (set O n q) (set K c (n + 1)) (n + 1))
-    met_new lo lk =
+    pub met_new : a.count < length a.order → c < length a.known → {b : Queue} → b.order ≡ set a.order a.count q → b.known ≡ set a.known c (a.count + 1)
+        → b.count ≡ a.count + 1 → StatesMet rep (q ∷ []) a b
+    met_new lo lk {b} eo ek en =
         record {
-          queued = λ seen l k. subst (λ (s : List ℕ). Listing rep s (set O n q) (set K c (n + 1)) (n + 1)) (sym (added seen l)) (listing_new seen lo lk l);
+          queued = λ seen l k.
+              subst (λ (s : List ℕ). QueueHolds rep s b) (sym (added seen l))
+              (rw (eo, ek, en) (listing_new seen lo lk l));
         }

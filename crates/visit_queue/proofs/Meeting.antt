@@ -12,16 +12,17 @@ use Rattle.machine.specs.Form.{child_states, meet}
 use Rattle.machine.proofs.Find.{index_row}
 use Rattle.form_laws.specs.Listed.{kids}
 use Rattle.layout.specs.Leaves.{RowAt, RulesOf, state_no}
-use Rattle.visit_queue.specs.Queue.{by_rep, VisitQueue, QueueHolds, StatesMet, states_of}
+use Rattle.visit_queue.specs.Queue.{by_rep, QueueHolds, StatesMet, states_of}
+use Rattle.visit_queue.specs.declared.queue.Queue.{Queue}
 use Rattle.visit_queue.proofs.Marks.{meet_append, meet_longer}
 
 -- No state was met.
-met_none : {rep qs : List ℕ} {a : VisitQueue} → qs ≡ [] → StatesMet rep qs a a
+met_none : {rep qs : List ℕ} {a : Queue} → qs ≡ [] → StatesMet rep qs a a
 unfolding meet
 met_none {rep} {qs} {a} e = subst (λ (s : List ℕ). StatesMet rep s a a) (sym e) (record { queued = λ seen l h. l })
 
 -- States were met, and then others: qs in all.
-met_then : {rep xs ys qs : List ℕ} {a b c : VisitQueue} → xs ++ ys ≡ qs → StatesMet rep xs a b → StatesMet rep ys b c → StatesMet rep qs a c
+met_then : {rep xs ys qs : List ℕ} {a b c : Queue} → xs ++ ys ≡ qs → StatesMet rep xs a b → StatesMet rep ys b c → StatesMet rep qs a c
 met_then {rep} {xs} {ys} {qs} {a} {b} {c} e f g =
     record {
       queued = λ seen l h.
@@ -45,7 +46,7 @@ module _ (cs : List Child) (j : ℕ) {kids : ℕ} (e : kids ≡ length cs) where
   long = length-map cs (λ c. c.state) ∙ sym e
 
   -- Of the children from the next on, that one's state was met, and then the others'.
-  pub children_next : {rep : List ℕ} {a b c : VisitQueue} {q : ℕ} → j < kids → (j < length cs → q ≡ state_no cs j) → StatesMet rep (q ∷ []) a b
+  pub children_next : {rep : List ℕ} {a b c : Queue} {q : ℕ} → j < kids → (j < length cs → q ≡ state_no cs j) → StatesMet rep (q ∷ []) a b
       → StatesMet rep (drop (j + 1) (states_of cs)) b c → StatesMet rep (drop j (states_of cs)) a c
   children_next h d =
       met_then
@@ -53,7 +54,7 @@ module _ (cs : List Child) (j : ℕ) {kids : ℕ} (e : kids ≡ length cs) where
       ∙ sym (drop-cons (states_of cs) j 0 (omega (arith, long))))
 
   -- Behind the last there is none.
-  pub children_end : {rep : List ℕ} {a : VisitQueue} → kids ≤ j → StatesMet rep (drop j (states_of cs)) a a
+  pub children_end : {rep : List ℕ} {a : Queue} → kids ≤ j → StatesMet rep (drop j (states_of cs)) a a
   children_end h = met_none (drop_of_length-le (states_of cs) {i = j} (omega (arith, long)))
 
 -- The row at an index.
@@ -64,11 +65,11 @@ row_there (x ∷ rows) (suc i) d h = row_there rows i d (omega arith)
 
 module _ {M : Table} {q from to : ℕ} (h : RulesOf M q from to) where
   -- The child states of a state are those of its rules.
-  pub rules_all : {rep : List ℕ} {a b : VisitQueue} → StatesMet rep (child_states (slice from to M.rows)) a b → StatesMet rep (kids M q) a b
+  pub rules_all : {rep : List ℕ} {a b : Queue} → StatesMet rep (child_states (slice from to M.rows)) a b → StatesMet rep (kids M q) a b
   rules_all {rep} {a} {b} = subst (λ (l : List Row). StatesMet rep (child_states l) a b) (sym h.rows)
 
   -- Of the rules from the next on, the states of that one's children were met, and then the others'.
-  pub rules_next : {rep : List ℕ} {a b c : VisitQueue} (i : ℕ) → i < to → ((r : Row) → RowAt M i r → StatesMet rep (states_of r.rule.rest) a b)
+  pub rules_next : {rep : List ℕ} {a b c : Queue} (i : ℕ) → i < to → ((r : Row) → RowAt M i r → StatesMet rep (states_of r.rule.rest) a b)
       → StatesMet rep (child_states (slice (i + 1) to M.rows)) b c → StatesMet rep (child_states (slice i to M.rows)) a c
   unfolding child_states
   rules_next i b f =
@@ -79,6 +80,6 @@ module _ {M : Table} {q from to : ℕ} (h : RulesOf M q from to) where
       (f (get_or M.rows i d) (row_there M.rows i d l))
 
 -- Behind the last there is none.
-pub rules_end : (M : Table) {rep : List ℕ} {a : VisitQueue} (i to : ℕ) → to ≤ i → StatesMet rep (child_states (slice i to M.rows)) a a
+pub rules_end : (M : Table) {rep : List ℕ} {a : Queue} (i to : ℕ) → to ≤ i → StatesMet rep (child_states (slice i to M.rows)) a a
 unfolding child_states
 rules_end M i to b = met_none (ap child_states (drop_of_length-le (take to M.rows) {i = i} (omega (arith, length-take to M.rows))))

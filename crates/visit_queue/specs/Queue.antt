@@ -1,8 +1,9 @@
--- The states that were met, each class of states once, as a queue in lent bytes. Definitions only.
-use Rattle.std.specs.Prelude.{◌≡◌, true, false, List, map, ℕ, suc, ◌<◌, ◌≤◌, eqb, ltb, length, get_or, take}
+-- The states that were met, each class of states once, as a queue. Definitions only.
+use Rattle.std.specs.Prelude.{◌≡◌, true, false, List, map, ℕ, suc, ◌≤◌, eqb, ltb, length, get_or, take}
 use Rattle.machine.specs.Machine.{Child}
 use Rattle.machine.specs.Form.{Test, number_in, meet}
 use Rattle.text.specs.Limits.{states_most}
+use Rattle.visit_queue.specs.declared.queue.Queue.{Queue}
 
 -- Classes of states, a byte each: two states are one if they have one class.
 abbrev pub by_rep : List ℕ → Test
@@ -18,26 +19,17 @@ pub record Listing (rep seen O K : List ℕ) (n : ℕ) : Type 0 where
   pub listed : take n O ≡ seen
   pub marks : (q : ℕ) → get_or K (get_or rep q 0) 0 ≡ mark (by_rep rep) seen q
 
--- The states that were met in turn, and the marks of their classes, in lent bytes.
-pub record VisitQueue : Type 0 where
-  pub order : List ℕ
-  pub known : List ℕ
-  pub count : ℕ
-
--- The queue in the bytes O and K, with n states.
-abbrev pub queue_of : (O K : List ℕ) (n : ℕ) → VisitQueue
-queue_of O K n = record { order = O; known = K; count = n }
-
 -- The queue holds the list of states.
-abbrev pub QueueHolds : (rep seen : List ℕ) → VisitQueue → Type 0
+abbrev pub QueueHolds : (rep seen : List ℕ) → Queue → Type 0
 QueueHolds rep seen a = Listing rep seen a.order a.known a.count
 
--- O has an entry for each state that a table may have, K one for each class.
-abbrev pub QueueRoom : (rep O K : List ℕ) → Type 0
-QueueRoom rep O K = (states_most ≤ length O) × ((q : ℕ) → get_or rep q 0 < length K)
+-- No state was met, and no class is marked.
+pub record NoneMet (a : Queue) : Type 0 where
+  pub none : a.count ≡ 0
+  pub unmarked : (i : ℕ) → get_or a.known i 0 ≡ 0
 
 -- The states qs were met: whatever list the queue a held, b holds it with the new ones, if these are not too many.
-pub record StatesMet (rep qs : List ℕ) (a b : VisitQueue) : Type 0 where
+pub record StatesMet (rep qs : List ℕ) (a b : Queue) : Type 0 where
   pub queued : (seen : List ℕ) → QueueHolds rep seen a → length (meet (by_rep rep) seen qs) ≤ states_most → QueueHolds rep (meet (by_rep rep) seen qs) b
 
 -- The states of children, from left to right.

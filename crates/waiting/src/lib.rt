@@ -1,11 +1,25 @@
 // The numbers that wait while a tree is measured: a state, with a unit for each symbol above it.
 #![tactic(auto)]
 
-ghost use Rattle.std.specs.Prelude.{◌≡◌, suc, ◌+◌, ◌*◌, ◌/◌, ◌<◌, ◌≤◌, length};
+ghost use Rattle.std.specs.Prelude.{◌≡◌, suc, ◌+◌, ◌-◌, ◌*◌, ◌/◌, ◌<◌, ◌≤◌, length, set};
 ghost use Rattle.words.specs.Told.{Told};
 ghost use Rattle.text.specs.Limits.{states_most};
 ghost use Rattle.trees.specs.Shape.{depth_most};
-ghost use Rattle.waiting.specs.Waiting.{ChildrenPushed, NextIs, TurnMade, Usual};
+ghost use Rattle.waiting.specs.Waiting.{ChildrenPushed, NextIs, ToldBy, TurnMade, Usual};
+
+// The stack's places, and how many may be taken before a turn: more than three for each of 63 symbols above. A turn takes up to
+// seven more, whatever is kept for its rule.
+pub const PLACES: usize = 208;
+
+const TAKEN_MOST: usize = 200;
+
+// What waits below the number that comes next, at the places before `top`. The places are lent: of a stack that owned
+// them the compiler kept `top` in memory, which took a tree's word 1.4 per cent more instructions.
+#[derive(Drop)]
+pub struct Stack<'a> {
+    places: &'a mut [u16; PLACES],
+    top: usize,
+}
 
 // The level of a waiting number's children: a unit for each symbol above them.
 fn level_below(next: usize) -> usize
@@ -23,51 +37,66 @@ fn child(level: usize, state: usize) -> u16
     (level + state) as u16
 }
 
-// Puts the numbers of a rule's last three children, where they are behind the first, on the stack.
-fn push(stack: &mut [u16], top: usize, level: usize, x: u64)
-    requires { (level ≤ states_most * depth_most) × (top + 3 ≤ length stack.old) }
-    ensures { ChildrenPushed x level top stack.old stack.new }
-{
-    stack[top] = child(level, rule_leaves::later_in(x, 0));
-    stack[top + 1] = child(level, rule_leaves::later_in(x, 1));
-    stack[top + 2] = child(level, rule_leaves::later_in(x, 2));
-}
-
 // The number that comes next: what waits below if a rule has no children, else the first child's.
 fn next_of(kids: usize, below: u16, first: usize) -> usize
     ensures { NextIs kids below first result }
 {
-    if kids == 0 { below as usize } else { first }
+    if kids == 0 { usize::from(below) } else { first }
 }
 
-// A turn with the rule that x tells, from the number `next` on: its children are put on the stack, over
-// what waits there; the answer is the number that comes next.
-pub fn turn(stack: &mut [u16], top: usize, next: usize, x: u64) -> usize
-    requires { (next < states_most * depth_most) × (0 < top) × (top + 3 ≤ length stack.old) }
-    ensures { TurnMade x next top stack.old stack.new result }
-{
-    let level = level_below(next);
-    let below = stack[top - 1];
-    let first = level + rule_leaves::first_in(x);
-    push(stack, top, level, x);
-    next_of(rule_leaves::kids_in(x), below, first)
-}
+impl<'a> Stack<'a> {
+    // A stack with one place taken, on which this number waits.
+    pub fn new(places: &'a mut [u16; PLACES], number: u16) -> Stack<'a>
+        ensures { (result.top ≡ 1) × (length result.places.now ≡ 208) × (result.places.now ≡ set places.old 0 number) }
+    {
+        places[0] = number;
+        Stack { places, top: 1 }
+    }
 
-// Whether a number that comes next may meet a symbol: both are some that tables have, and the stack has room.
-pub fn usual(f: usize, next: usize, top: usize) -> bool
-    ensures { Told (Usual f next top) result }
-{
-    if layout::SYMBOLS <= f {
-        return false;
+    // Whether no place is taken.
+    pub fn is_empty(&self) -> bool
+        ensures { Told (self.now.top ≡ 0) result }
+    {
+        self.top == 0
     }
-    if layout::STATES * layout::LEVELS <= next {
-        return false;
+
+    // Whether a number that comes next may meet a symbol: both are some that tables have, and the stack has room.
+    pub fn usual(&self, f: usize, next: usize) -> bool
+        ensures { Told (Usual f next self.now.top) result }
+    {
+        f < layout::SYMBOLS
+            && next < layout::STATES * layout::LEVELS
+            && 0 < self.top
+            && self.top <= TAKEN_MOST
     }
-    if top == 0 {
-        return false;
+
+    // Puts the numbers of a rule's last three children, where they are behind the first, on the stack.
+    fn push(&mut self, level: usize, x: u64)
+        requires { (level ≤ states_most * depth_most) × (self.old.top + 3 ≤ 208) }
+        ensures pushed { ChildrenPushed x level self.old.top self.old.places.now self.new.places.now }
+        ensures top { self.new.top ≡ self.old.top }
+    {
+        let top = self.top;
+        self.places[top] = child(level, rule_leaves::later_in(x, 0));
+        self.places[top + 1] = child(level, rule_leaves::later_in(x, 1));
+        self.places[top + 2] = child(level, rule_leaves::later_in(x, 2));
     }
-    if 200 < top {
-        return false;
+
+    // A turn with the rule that x tells, from the number `next` on: its children are put on the stack, over
+    // what waits there; the answer is the number that comes next.
+    pub fn turn(&mut self, next: usize, x: u64) -> usize
+        requires { (next < states_most * depth_most) × (0 < self.old.top) × (self.old.top + 3 ≤ 208) }
+        ensures made { TurnMade x next self.old.top self.old.places.now self.new.places.now result }
+        ensures few { self.new.top < self.old.top + 7 }
+        ensures top { ToldBy x self.new.top (λ r. self.old.top + length r.rest - 1) }
+    {
+        let level = level_below(next);
+        let below = self.places[self.top - 1];
+        let first = level + rule_leaves::first_in(x);
+        self.push(level, x);
+        let kids = rule_leaves::kids_in(x);
+        let comes = next_of(kids, below, first);
+        self.top = self.top + kids - 1;
+        comes
     }
-    true
 }

@@ -11,28 +11,20 @@ use Rattle.trees.specs.Preorder.{preorder, preorders, Levelss}
 use Rattle.trees.specs.Lacking.{or_else, lacks, lackss}
 use Rattle.layout.specs.Leaves.{Encodes, state_no}
 use Rattle.layout.proofs.Stretches.{further}
-use Rattle.walk.specs.Walked.{TreeStands, walked, Onward}
-use Rattle.walk.specs.declared.Walk.{Walk}
-use Rattle.walk.specs.declared.Walk.TheVariants.{Ends, Lacks}
+use Rattle.std.specs.Prelude.{Result, Ok, Err}
+use Rattle.walk.specs.Walked.{TreeStands, walked}
+use Rattle.walk.specs.declared.Lack.{Lack}
 use Rattle.walk.proofs.LeftToWalk.{LeftToWalk, Walking}
 
 -- A walk that ends lacks nothing.
-walked_ends : (o : Option ℕ) (end after : ℕ) → Ends after ≡ walked o end → (o ≡ none) × (after ≡ end)
+walked_ends : (o : Option ℕ) (end after : ℕ) → Ok after ≡ walked o end → (o ≡ none) × (after ≡ end)
 walked_ends none end after e = (refl, cc)
-walked_ends (some p) end after e = let z : ◌≡◌ {A = ℕ} 0 1 = cc in absurd (omega arith)
+walked_ends (some p) end after e = cc
 
 -- A walk that lacks tells the place.
-walked_lacks : (o : Option ℕ) (end p : ℕ) → Lacks p ≡ walked o end → o ≡ some p
-walked_lacks none end p e = let z : ◌≡◌ {A = ℕ} 0 1 = cc in absurd (omega arith)
-walked_lacks (some p') end p e = cc
-
--- A walk that ends has gone on.
-pub onward_ends : (at len : ℕ) (r : Walk) (next : ℕ) → r ≡ Ends next → Onward at len r → (at < next) × (next ≤ len)
-onward_ends at len r next e h = rw e at h
-
--- A walk that lacks a rule need not.
-pub onward_lacks : (at len : ℕ) (r : Walk) (p : ℕ) → r ≡ Lacks p → Onward at len r
-onward_lacks at len r p e = rw e tt
+walked_lacks : (o : Option ℕ) (end : ℕ) (x : Lack) → Err x ≡ walked o end → o ≡ some x.place
+walked_lacks none end x e = cc
+walked_lacks (some p) end x e = let i : x ≡ record { place = p } = cc in sym (ap (λ (y : Lack). some y.place) i)
 
 module _ {F I S : List ℕ} {at levels : ℕ} {M : Table} {t : Tree} (stands : TreeStands F I S at levels M t) (below q x j next : ℕ) where
   module _ (c : Child) (cs : List Child) (t₁ : Tree) (ts : Forest) (h : LeftToWalk S at below q M t x j next (c ∷ cs) (t₁ ▸ ts)) where
@@ -78,16 +70,16 @@ module _ {F I S : List ℕ} {at levels : ℕ} {M : Table} {t : Tree} (stands : T
 
   module _ (g : Walking S at below q M t x j next) (many : ℕ) (told_many : (i : ℕ) (r : Rule) → Encodes x i r → many ≡ length r.rest) where
     -- Where no child is left, nothing is lacking, and the tree ends there.
-    pub walking_last : many ≤ j → Ends next ≡ walked (lacks M q t at) (at + length (preorder t))
+    pub walking_last : many ≤ j → Ok next ≡ walked (lacks M q t at) (at + length (preorder t))
     unfolding lackss preorders
     walking_last z = go g.0 g.1 g.2
       where
-        go : (cs : List Child) (ts : Forest) → LeftToWalk S at below q M t x j next cs ts → Ends next ≡ walked (lacks M q t at) (at + length (preorder t))
+        go : (cs : List Child) (ts : Forest) → LeftToWalk S at below q M t x j next cs ts → Ok next ≡ walked (lacks M q t at) (at + length (preorder t))
         go [] ∅ h = let e : at + length (preorder t) ≡ next = omega (arith, h.end) in rw (h.lacking, e)
         go (c ∷ cs) ts h = absurd (omega (arith, h.kids, told_many h.number h.rule h.holds))
         go [] (t₁ ▸ ts) h = absurd (omega (arith, h.trees))
 
-    module _ (due : j < many) (s : ℕ) (told_state : (i : ℕ) (r : Rule) → Encodes x i r → j < length r.rest → s ≡ state_no r.rest j) (w : Walk)
+    module _ (due : j < many) (s : ℕ) (told_state : (i : ℕ) (r : Rule) → Encodes x i r → j < length r.rest → s ≡ state_no r.rest j) (w : Result ℕ Lack)
         (told : (t' : Tree) → TreeStands F I S next below M t' → w ≡ walked (lacks M s t' next) (next + length (preorder t'))) where
       -- The state is that of the first of the children that are left.
       child_state : (c : Child) (cs : List Child) (ts : Forest) → LeftToWalk S at below q M t x j next (c ∷ cs) ts → s ≡ c.state
@@ -96,7 +88,7 @@ module _ {F I S : List ℕ} {at levels : ℕ} {M : Table} {t : Tree} (stands : T
           told_state h.number h.rule h.holds (omega (arith, h.kids)) ∙ ap (state_no h.rule.rest) (sym (add-zero j)) ∙ h.states 0
 
       -- A child that lacks nothing is passed.
-      pub walking_next : (after : ℕ) → w ≡ Ends after → Walking S at below q M t x (j + 1) after
+      pub walking_next : (after : ℕ) → w ≡ Ok after → Walking S at below q M t x (j + 1) after
       walking_next after e = go g.0 g.1 g.2
         where
           go : (cs : List Child) (ts : Forest) → LeftToWalk S at below q M t x j next cs ts → Walking S at below q M t x (j + 1) after
@@ -108,14 +100,14 @@ module _ {F I S : List ℕ} {at levels : ℕ} {M : Table} {t : Tree} (stands : T
               (cs, ts, child_passed c cs t₁ ts h after (ap (λ (y : ℕ). lacks M y t₁ next) (sym k) ∙ m.0) m.1)
 
       -- What a child lacks, the whole lacks.
-      pub walking_lost : (p : ℕ) → w ≡ Lacks p → w ≡ walked (lacks M q t at) (at + length (preorder t))
-      walking_lost p e = go g.0 g.1 g.2
+      pub walking_lost : (x : Lack) → w ≡ Err x → Err x ≡ walked (lacks M q t at) (at + length (preorder t))
+      walking_lost y e = go g.0 g.1 g.2
         where
-          go : (cs : List Child) (ts : Forest) → LeftToWalk S at below q M t x j next cs ts → w ≡ walked (lacks M q t at) (at + length (preorder t))
+          go : (cs : List Child) (ts : Forest) → LeftToWalk S at below q M t x j next cs ts → Err y ≡ walked (lacks M q t at) (at + length (preorder t))
           go [] ts h = absurd (omega (arith, h.kids, told_many h.number h.rule h.holds))
           go (c ∷ cs) ∅ h = absurd (omega (arith, h.trees))
           go (c ∷ cs) (t₁ ▸ ts) h =
               let k = child_state c cs (t₁ ▸ ts) h in
-              let m = walked_lacks (lacks M s t₁ next) (next + length (preorder t₁)) p (sym e ∙ told t₁ (child_stands c cs t₁ ts h)) in
+              let m = walked_lacks (lacks M s t₁ next) (next + length (preorder t₁)) y (sym e ∙ told t₁ (child_stands c cs t₁ ts h)) in
               let i = ap (λ (y : ℕ). lacks M y t₁ next) (sym k) ∙ m in
-              e ∙ rw (child_first c cs t₁ ts h, i) refl
+              rw (child_first c cs t₁ ts h, i) refl

@@ -11,39 +11,38 @@ ghost use Rattle.walk.specs.Walked.{TreeStands, walked, Onward};
 // From this unit on a plan's number tells how many children a rule has, and below it the spot of its first word.
 pub const PLAN_UNIT: usize = 131072;
 
-// The place behind a tree, if each of its positions has a rule; or the first position without one.
+// The first position of a tree that has no rule.
 #[derive(Clone, Copy)]
-pub enum Walk {
-    Ends(usize),
-    Lacks(usize),
+pub struct Lack {
+    pub place: usize,
 }
 
-// The first position without a rule of the tree at `at`, from state q on, with so many levels
-// allowed. Whatever the lent numbers are, a walk that ends has gone on: no two calls are for one place.
-pub fn lacking(levels: usize, numbers: &[u64], tree: &[u8], at: usize, q: usize) -> Walk
+// The place behind the tree at `at`, if from state q on each position has a rule, with so many levels
+// allowed; or the first that has none. Whatever the lent numbers are, a walk that ends has gone on: no two calls are for one place.
+pub fn lacking(
+    levels: usize,
+    numbers: &[u64],
+    tree: &[u8],
+    at: usize,
+    q: usize,
+) -> Result<usize, Lack>
     requires { at ≤ length tree.now }
     ensures by_index { (F : List ℕ) (M : Table) (t : Tree) → TreeStands F numbers.now tree.now at levels M t
         → result ≡ walked (lacks M q t at) (at + length (preorder t)) }
     ensures onward { Onward at (length tree.now) result }
 {
     if levels == 0 || at == tree.len() {
-        return Walk::Lacks(at);
+        return Err(Lack { place: at });
     }
-    let x = rule_leaves::kept_for(numbers, q, layout::wide(tree[at]));
+    let x = rule_leaves::kept_for(numbers, q, usize::from(tree[at]));
     if x == 0 {
-        return Walk::Lacks(at);
+        return Err(Lack { place: at });
     }
     let kids = rule_leaves::kids_in(x);
-    let mut j = 0;
     let mut next = at + 1;
-    while j < kids {
+    for j in 0..kids {
         let state = rule_leaves::child_in(x, j);
-        let below = lacking(levels - 1, numbers, tree, next, state);
-        let Walk::Ends(after) = below else {
-            return below;
-        };
-        next = after;
-        j += 1;
+        next = lacking(levels - 1, numbers, tree, next, state)?;
     }
-    Walk::Ends(next)
+    Ok(next)
 }

@@ -14,18 +14,17 @@ use Rattle.promises.specs.Room.{into}
 use Rattle.promises.specs.Word.{word_in, word_on, word_into}
 use Rattle.layout.specs.Layout.{Opened}
 use Rattle.words.specs.declared.No.{No}
-use Rattle.shape.specs.declared.Shape.TheVariants as shape
-use Rattle.shape.specs.Shaped.{Checked}
+use Rattle.shape.specs.Shaped.{size}
 use Rattle.walk.specs.Walked.{TreeStands}
 
 -- Where the shape ends, there is a tree.
-pub ends_given : (o : Reply Tree) (p : ℕ) → Checked o (shape.Ends p) → (t : Tree) × (o ≡ given t)
+pub ends_given : (o : Reply Tree) (p : ℕ) → given p ≡ size o → (t : Tree) × (o ≡ given t)
 ends_given (given t) p h = (t, refl)
-ends_given (refusal x) p h = absurd h
+ends_given (refusal x) p h = cc
 
 -- Where the shape is refused, it is refused with that number and place.
-pub shape_no : (o : Reply Tree) (r : No) → Checked o (shape.Refused r) → o ≡ refused r.number r.place
-shape_no (given t) r h = absurd h
+pub shape_no : (o : Reply Tree) (r : No) → refusal r ≡ size o → o ≡ refused r.number r.place
+shape_no (given t) r h = cc
 shape_no (refusal x) r h = cc
 
 module _ (M : Table) (S : List ℕ) where

@@ -4,13 +4,13 @@
 
 ghost use Rattle.std.specs.Prelude.{◌≡◌};
 ghost use Rattle.words.specs.Reply.{refused};
-ghost use Rattle.layout.specs.Layout.{Meant};
+ghost use Rattle.layout.specs.Lent.{Means};
 ghost use Rattle.walk.specs.Walked.{Wordless};
 ghost use Rattle.promises.specs.Word.{word_on};
 ghost use Rattle.why_no_word.specs.Answer.{place_of};
 
-use shape::Shape;
-use walk::Walk;
+use layout::OpenTable;
+use walk::Lack;
 use words::No;
 
 // A word's length and its number of terms.
@@ -20,38 +20,29 @@ pub struct Letters {
     pub terms: usize,
 }
 
-// The word's record, or the refusal.
-#[derive(Clone, Copy)]
-pub enum WordAnswer {
-    Found(Letters),
-    Refused(No),
-}
-
 // Where a walk stopped: the first position without a rule, where one is lacking.
-fn place_of(walk: Walk) -> usize
+fn place_of(walk: Result<usize, Lack>) -> usize
     ensures { result ≡ place_of walk }
 {
     match walk {
-        Walk::Ends(place) => place,
-        Walk::Lacks(place) => place,
+        Ok(place) => place,
+        Err(lack) => lack.place,
     }
 }
 
 // Why there is no word, where there is none: 6, 7, 8, 10, 11 for the tree's shape, else 9 at the
 // first position without a rule.
-pub fn why(frames: &[u8], numbers: &[u64], tree: &[u8]) -> No
-    ensures { Meant frames.now numbers.now (λ M. Wordless M tree.now M.start
+pub fn why(table: &OpenTable<'_>, tree: &[u8]) -> No
+    ensures { Means table.now (λ M. Wordless M tree.now M.start
         → word_on M tree.now ≡ refused result.number result.place) }
 {
-    match shape::check(frames, numbers, tree) {
-        Shape::Refused(refusal) => refusal,
-        Shape::Ends(_) => {
-            let start = layout::start(numbers);
-            let walk = walk::lacking(layout::LEVELS, numbers, tree, 0, start);
-            No {
-                number: 9,
-                place: place_of(walk),
-            }
-        }
+    if let Err(refusal) = shape::check(table, tree) {
+        return refusal;
+    }
+    let start = layout::start(table.numbers);
+    let walk = walk::lacking(layout::LEVELS, table.numbers, tree, 0, start);
+    No {
+        number: 9,
+        place: place_of(walk),
     }
 }

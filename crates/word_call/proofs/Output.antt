@@ -5,7 +5,7 @@ use Prim.Native.Nat.{ℕ, ◌+◌, ◌<◌, ◌≤◌}
 use native.Mathlib.Omega.{arith}
 use lib.ListN.{length, take, drop, length-append}
 use Rattle.words.specs.Word.{Word, terms}
-use Rattle.words.specs.Reply.{Reply, given, refused}
+use Rattle.words.specs.Reply.{Reply, given, refusal, refused}
 use Rattle.machine.specs.Machine.{Tree, Table}
 use Rattle.trees.specs.Preorder.{preorder}
 use Rattle.trees.specs.Shape.{tree_most, depth_most}
@@ -16,12 +16,10 @@ use Rattle.layout.specs.Layout.{Opened, Meant}
 use Rattle.words.specs.declared.No.{No}
 use Rattle.walk.specs.Walked.{Wordless}
 use Rattle.walk.specs.Plan.{Counted}
-use Rattle.measure.specs.declared.TreeMeasure.{TreeMeasure}
-use Rattle.measure.specs.declared.TreeMeasure.TheVariants as measured
-use Rattle.measure.specs.Measures.{MeasureOf, Few}
+use Rattle.std.specs.Prelude.{Option, Some, None, IfSome, ◌≤◌}
+use Rattle.measure.specs.Measures.{MeasureOf}
 use Rattle.word_writer.specs.WordWritten.{Due}
-use Rattle.why_no_word.specs.declared.WordAnswer.{WordAnswer}
-use Rattle.why_no_word.specs.declared.WordAnswer.TheVariants as found
+use Rattle.why_no_word.specs.declared.Letters.{Letters}
 use Rattle.why_no_word.specs.Answer.{Answers}
 use Rattle.why_no_word.proofs.Said.{refused_said, short_said, word_said}
 use Rattle.why_no_word.proofs.Read.{into_no, into_word}
@@ -55,7 +53,7 @@ module _ {F I S P : List ℕ} {letters : ℕ} {u v : Word} {M : Table} (b : Outp
   output_long = simp length-append (omega (arith, b.counted.many))
 
   -- The definition's answer is that for the three words.
-  output_answer : {r : WordAnswer} (R R' : List ℕ) → Answers (into (length R) (given (u ++ b.counted.letters_of ++ v))) R R' r
+  output_answer : {r : Reply Letters} (R R' : List ℕ) → Answers (into (length R) (given (u ++ b.counted.letters_of ++ v))) R R' r
       → Answers (word_into M S (length R)) R R' r
   output_answer {r} R R' a =
       let k = b.counted in
@@ -63,8 +61,8 @@ module _ {F I S P : List ℕ} {letters : ℕ} {u v : Word} {M : Table} (b : Outp
       subst⁻¹ (λ (x : Reply Word). Answers x R R' r) (into_word M S k.tree e (length R) k.letters_of k.is) (rw output_is at a)
 
   -- A room that is too short is refused with the length of the three.
-  pub output_short : {r : WordAnswer} (R : List ℕ) → length R < length u + letters + length v
-      → r ≡ found.Refused (record { number = 12; place = length u + letters + length v }) → Answers (word_into M S (length R)) R R r
+  pub output_short : {r : Reply Letters} (R : List ℕ) → length R < length u + letters + length v
+      → r ≡ refused 12 (length u + letters + length v) → Answers (word_into M S (length R)) R R r
   output_short R h e = output_answer R R (short_said R (u ++ b.counted.letters_of ++ v) (length u + letters + length v) output_long h e)
 
   -- Writing by the plan is due.
@@ -82,8 +80,8 @@ module _ {F I S P : List ℕ} {letters : ℕ} {u v : Word} {M : Table} (b : Outp
       }
 
   -- In a room that is long enough the three are put one behind the other.
-  pub output_fits : {r : WordAnswer} {R R' : List ℕ} (n : ℕ) → length u + letters + length v ≤ length R → ThreePut F P letters u v R R'
-      → n ≡ terms (take (length u + letters + length v) R') → r ≡ found.Found (record { length = length u + letters + length v; terms = n })
+  pub output_fits : {r : Reply Letters} {R R' : List ℕ} (n : ℕ) → length u + letters + length v ≤ length R → ThreePut F P letters u v R R'
+      → n ≡ terms (take (length u + letters + length v) R') → r ≡ given (record { length = length u + letters + length v; terms = n })
       → Answers (word_into M S (length R)) R R' r
   output_fits {r} {R} {R'} n h p en er =
       let k = b.counted in
@@ -99,18 +97,18 @@ module _ {F I S P : List ℕ} {letters : ℕ} {u v : Word} {M : Table} (b : Outp
       (subst (λ (x : ℕ). R' ≡ take (from + x) R₂ ++ v ++ drop (from + x + length v) R₂) k.many p.last)))
 
 -- What a measure that counted says.
-pub measured_counted : {F S P : List ℕ} {M : Table} {q : ℕ} {r : TreeMeasure} (letters : ℕ) → MeasureOf F S P M q r
-    → r ≡ measured.Counted letters → Counted F S P M q letters
-measured_counted {F} {S} {P} {M} {q} letters h e = subst (λ (x : TreeMeasure). MeasureOf F S P M q x) e h
+pub measured_counted : {F S P : List ℕ} {M : Table} {q : ℕ} {r : Option ℕ} (letters : ℕ) → MeasureOf F S P M q r
+    → r ≡ Some letters → Counted F S P M q letters
+measured_counted {F} {S} {P} {M} {q} letters h e = subst (λ (x : Option ℕ). MeasureOf F S P M q x) e h
 
 -- It counted few letters.
-pub measured_few : (r : TreeMeasure) (letters : ℕ) → Few r → r ≡ measured.Counted letters → letters ≤ 8388608
+pub measured_few : (r : Option ℕ) (letters : ℕ) → IfSome r (λ n. n ≤ 8388608) → r ≡ Some letters → letters ≤ 8388608
 measured_few r letters h e = rw e at h
 
 -- What a measure that did not count says: why there is no word is the answer.
-pub measured_other : {F I : List ℕ} (S P : List ℕ) {M : Table} (r : TreeMeasure) {why : No} (R : List ℕ) → MeasureOf F S P M M.start r
-    → r ≡ measured.Other → Opened F I M → Meant F I (λ M. Wordless M S M.start → word_on M S ≡ refused why.number why.place)
-    → Answers (word_into M S (length R)) R R (found.Refused why)
+pub measured_other : {F I : List ℕ} (S P : List ℕ) {M : Table} (r : Option ℕ) {why : No} (R : List ℕ) → MeasureOf F S P M M.start r
+    → r ≡ None → Opened F I M → Meant F I (λ M. Wordless M S M.start → word_on M S ≡ refused why.number why.place)
+    → Answers (word_into M S (length R)) R R (refusal why)
 measured_other {F} {I} S P {M} r {why} R h e o told =
-    let n = subst (λ (x : TreeMeasure). MeasureOf F S P M M.start x) e h in
+    let n = subst (λ (x : Option ℕ). MeasureOf F S P M M.start x) e h in
     refused_said R why.number why.place (into_no M S (length R) why.number why.place (told M o n)) refl

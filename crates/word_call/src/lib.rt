@@ -9,9 +9,11 @@ ghost use Rattle.promises.specs.Word.{word_into};
 ghost use Rattle.why_no_word.specs.Answer.{Answers};
 ghost use Rattle.walk.specs.Plan.{Counted};
 
-use measure::TreeMeasure;
-use why_no_word::{Letters, WordAnswer};
+use layout::OpenTable;
+use why_no_word::Letters;
 use words::No;
+
+// Bytes and numbers stay two arrays here, as C lends them: `measure` and `word_writer` read arrays without a test.
 
 // Writes the word of a tree that was counted, between the words of the initial rule: 12 with the
 // length needed where the room is too short.
@@ -21,17 +23,18 @@ fn write(
     plan: &[u32; layout::TREE],
     letters: usize,
     room: &mut [u8],
-) -> WordAnswer
+) -> Result<Letters, No>
     requires { letters ≤ 8388608 }
     ensures { (S : List ℕ) (M : Table) → Opened frames.now numbers.now M
         → Counted frames.now S plan.now M M.start letters
         → Answers (word_into M S (length room.old)) room.old room.new result }
 {
-    let before = layout::word_before(frames, numbers);
-    let after = layout::word_after(frames, numbers);
+    let table = OpenTable { frames, numbers };
+    let before = layout::word_before(&table);
+    let after = layout::word_after(&table);
     let length = before.len() + letters + after.len();
     if room.len() < length {
-        return WordAnswer::Refused(No {
+        return Err(No {
             number: 12,
             place: length,
         });
@@ -41,7 +44,7 @@ fn write(
     let end = from + letters;
     tree_word::put(after, room, end);
     let terms = terms::terms_in(room, length);
-    WordAnswer::Found(Letters { length, terms })
+    Ok(Letters { length, terms })
 }
 
 // The word of a tree by an opened table, written to the front of the room, or the refusal.
@@ -51,13 +54,13 @@ pub fn find(
     tree: &[u8],
     plan: &mut [u32; layout::TREE],
     room: &mut [u8],
-) -> WordAnswer
+) -> Result<Letters, No>
     ensures { Meant frames.now numbers.now
         (λ M. Answers (word_into M tree.now (length room.old)) room.old room.new result) }
 {
     let counted = measure::measure(numbers, tree, plan);
-    let TreeMeasure::Counted { letters } = counted else {
-        return WordAnswer::Refused(why_no_word::why(frames, numbers, tree));
+    let Some(letters) = counted else {
+        return Err(why_no_word::why(&OpenTable { frames, numbers }, tree));
     };
     write(frames, numbers, plan, letters, room)
 }

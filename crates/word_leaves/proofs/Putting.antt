@@ -3,7 +3,6 @@ use Rattle.std.proofs.Common.{
   ◌≡◌,
   ℕ,
   ◌+◌,
-  ◌-◌,
   ◌<◌,
   ◌≤◌,
   List,

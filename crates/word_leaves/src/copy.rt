@@ -5,31 +5,28 @@ ghost use Rattle.machine.specs.Machine.{Child};
 ghost use Rattle.layout.specs.Layout.{frames_size};
 ghost use Rattle.layout.specs.Leaves.{Spot, Put};
 
-use layout::{FRAMES, wide};
+use layout::FRAMES;
 
-// The 16 bytes from `from` on.
+// The 16 bytes from `from` on. The loops stay: with one copy_from_slice of 32 bytes in place of `sixteen`
+// and `store` a tree's word took 10 to 15 per cent more instructions.
 fn sixteen(frames: &[u8; FRAMES], from: usize) -> [u8; 16]
     requires { from + 16 ≤ frames_size }
     ensures { from + 16 ≤ length frames.now → result ≡ take 16 (drop from frames.now) }
 {
     let mut piece = [0u8; 16];
-    let mut i = 0;
-    while i < 16 {
+    for i in 0..16 {
         piece[i] = frames[from + i];
-        i += 1;
     }
     piece
 }
 
-// Stores 16 bytes in the room from `at` on.
+// Stores 16 bytes in the room from `at` on, in a loop for the reason given above.
 fn store(piece: [u8; 16], room: &mut [u8], at: usize)
     requires { at + 16 ≤ length room.old }
     ensures { room.new ≡ take at room.old ++ piece ++ drop (at + 16) room.old }
 {
-    let mut i = 0;
-    while i < 16 {
+    for i in 0..16 {
         room[at + i] = piece[i];
-        i += 1;
     }
 }
 
@@ -39,10 +36,9 @@ fn copy(frames: &[u8; FRAMES], from: usize, room: &mut [u8], at: usize, n: usize
     ensures { from + n ≤ length frames.now
         → room.new ≡ take at room.old ++ take n (drop from frames.now) ++ drop (at + n) room.old }
 {
-    let mut i = 0;
-    while i < n {
+    // As in `sixteen` the library's copy took more instructions, since words are short.
+    for i in 0..n {
         room[at + i] = frames[from + i];
-        i += 1;
     }
 }
 
@@ -55,7 +51,7 @@ fn put_slowly(frames: &[u8; FRAMES], p: usize, room: &mut [u8], at: usize) -> us
     if FRAMES <= p {
         return at;
     }
-    let n = wide(frames[p]);
+    let n = usize::from(frames[p]);
     if FRAMES - p <= n {
         return at;
     }
@@ -75,7 +71,7 @@ pub fn put_word(frames: &[u8; FRAMES], p: usize, room: &mut [u8], at: usize) -> 
     if FRAMES - 32 <= p {
         return put_slowly(frames, p, room, at);
     }
-    let n = wide(frames[p]);
+    let n = usize::from(frames[p]);
     if room.len() - at < 32 || 32 < n {
         return put_slowly(frames, p, room, at);
     }
@@ -84,11 +80,11 @@ pub fn put_word(frames: &[u8; FRAMES], p: usize, room: &mut [u8], at: usize) -> 
     at + n
 }
 
-// The spot of the word behind the child behind the word at a spot, with no test: whoever asks looks
-// himself whether it lies inside the lent bytes.
+// The spot of the word behind the child behind the word at a spot, with no test: with `next_spot` in its place a tree's word
+// took 3 per cent more instructions. Whoever asks looks himself whether it lies inside the lent bytes.
 pub fn next_spot_full(frames: &[u8; FRAMES], p: usize) -> usize
     requires { p < frames_size }
     ensures { (u : Word) (c : Child) (cs : List Child) → Spot frames.now u (c ∷ cs) p → Spot frames.now c.after cs result }
 {
-    p + 2 + wide(frames[p])
+    p + 2 + usize::from(frames[p])
 }

@@ -1,4 +1,6 @@
 // Going through a rule's words by their lengths: nothing is read twice, and no slice is made where an end of a word is all that is wanted.
+// The bytes, the spot and the letters of the word there stay three arguments: two loops use them so, and a struct of them would need
+// the premises that its spot is one and its letters are the word's in each contract, as now.
 ghost use Rattle.std.specs.Prelude.{◌≡◌, ℕ, ◌<◌, List, ◌∷◌, length, slice_index};
 ghost use Rattle.words.specs.Word.{Word};
 ghost use Rattle.text.specs.Limits.{states_most};
@@ -6,14 +8,14 @@ ghost use Rattle.machine.specs.Machine.{Child};
 ghost use Rattle.layout.specs.Layout.{frames_size};
 ghost use Rattle.layout.specs.Leaves.{Spot};
 
-use layout::{byte, wide};
+use layout::byte;
 
 // How many letters the word at a spot has.
 pub fn letters_at(frames: &[u8], p: usize) -> usize
     ensures upper_bound { result < 256 }
     ensures value { (u : Word) (cs : List Child) → Spot frames.now u cs p → result ≡ length u }
 {
-    wide(byte(frames, p))
+    usize::from(byte(frames, p))
 }
 
 // Letter k of the word at a spot.
@@ -31,7 +33,7 @@ pub fn state_past(frames: &[u8], p: usize, n: usize) -> usize
     ensures value { (u : Word) (c : Child) (cs : List Child) → Spot frames.now u (c ∷ cs) p → n ≡ length u → c.state < states_most
         → result ≡ c.state }
 {
-    wide(byte(frames, std::num::wrapping_add_usize(p, n + 1))) % 64
+    usize::from(byte(frames, std::num::wrapping_add_usize(p, n + 1))) % 64
 }
 
 // The spot of the word behind that child.

@@ -1,7 +1,7 @@
 -- Writing the word of a planned tree, for every table, tree and word at once: what holds before a word is put, and what the whole answers. Assumes nothing.
-use mathlib.Core.Path.{◌≡◌, refl, sym, ap, subst, ◌∙◌}
+use mathlib.Core.Path.{◌≡◌, refl, sym, ap, subst, subst⁻¹, ◌∙◌}
 use mathlib.Core.List.{List, [], ◌∷◌, ◌++◌, append_assoc, append-nil}
-use Prim.Native.Nat.{ℕ, ◌+◌, ◌-◌, ◌*◌, ◌/◌, ◌%◌, ◌<◌, ◌≤◌}
+use Prim.Native.Nat.{ℕ, ◌+◌, ◌-◌, ◌/◌, ◌%◌, ◌≤◌}
 use native.Mathlib.Omega.{arith}
 use borrow.Rule.Slice.PartMut.{put_mid, same_len_mid}
 use lib.ListN.{length, get_or, take, drop, length-append, length-drop, length-take}
@@ -14,24 +14,17 @@ use Rattle.layout.specs.Layout.{frames_size}
 use Rattle.layout.specs.Leaves.{Spot, Put}
 use Rattle.word_leaves.proofs.Spots.{spot_within}
 use Rattle.walk.specs.Plan.{plan_unit}
-use Rattle.word_writer.specs.WordWritten.{Due, WordWritten, Tidy, GoesOn, EndsBehind}
+use Rattle.word_writer.specs.WordWritten.{Due, WordWritten, Tidy, GoesOn}
+use Rattle.word_writer.specs.declared.Written.{Written}
 use Rattle.word_writer.proofs.Planned.{ChildrenToWrite, NextToWrite, no_levels, no_place, named_rule, left_next, left_last, next_level, next_place}
 
 -- The answer r and the room R' at the end are right for every planned tree with a word that n letters of room are enough for.
-abbrev pub NodeWrites : List ℕ → List ℕ → ℕ → ℕ → ℕ → List ℕ → ℕ → Type 0
+abbrev pub NodeWrites : List ℕ → List ℕ → ℕ → ℕ → ℕ → List ℕ → Written → Type 0
 NodeWrites F P levels at n R' r = (M : Table) (q : ℕ) (t : Tree) (w : Word) → Due F P at levels n M q t w → WordWritten w at (length (preorder t)) R' r
 
 -- There is no planned tree with a word that n letters of room are enough for.
 abbrev pub Nothing : List ℕ → List ℕ → ℕ → ℕ → ℕ → Type 0
 Nothing F P levels at n = (M : Table) (q : ℕ) (t : Tree) (w : Word) → Due F P at levels n M q t w → ⊥
-
--- Whoever stops at a place behind its own, within the plan, is tidy and has gone onward.
-pub stopped : {R R' : List ℕ} {at end next : ℕ} → length R' ≡ length R → end ≤ length R → next ≤ tree_most → at < next
-    → Tidy R R' (end * 65536 + next) × EndsBehind at (end * 65536 + next)
-stopped long letters place behind = (
-  record { long = long; letters = omega (arith, letters, place); place = omega (arith, place) },
-  record { behind = λ h. omega (arith, place, behind); past = λ h. absurd (omega (arith, place, behind)) },
-)
 
 -- Before a word is put: acc stands at the front of the room, `end` letters of it; the word u at spot p is next, and what the children behind it write
 -- makes w whole.
@@ -92,7 +85,7 @@ module _ {F P : List ℕ} {levels at n : ℕ} {R : List ℕ} {end next left p : 
       })
 
   -- With no child left the word is written.
-  pub writing_last : (R₁ : List ℕ) (end₁ : ℕ) → Put F p end R R₁ end₁ → left ≡ 0 → NodeWrites F P levels at n R₁ (end₁ * 65536 + next)
+  pub writing_last : (R₁ : List ℕ) (end₁ : ℕ) → Put F p end R R₁ end₁ → left ≡ 0 → NodeWrites F P levels at n R₁ (record { letters = end₁; place = next })
   writing_last R₁ end₁ o z M q t w d =
       let h = g.part M q t w d in
       let a = part_put h R₁ end₁ d.bytes (omega (arith, d.fits)) o in
@@ -100,7 +93,8 @@ module _ {F P : List ℕ} {levels at n : ℕ} {R : List ℕ} {end next left p : 
       let e : w ≡ h.acc ++ h.u = h.whole ∙ ap (λ (x : List ℕ). h.acc ++ h.u ++ x) b.0 ∙ append-nil (h.acc ++ h.u) in
       let k : length w ≡ end₁ = ap (λ (x : List ℕ). length x) e ∙ length-append h.acc h.u ∙ omega (arith, h.size, a.0) in
       record {
-        answer = omega (arith, k, b.1);
+        letters = sym k;
+        place = b.1;
         front = ap (λ (m : ℕ). take m R₁) k ∙ a.1 ∙ sym e;
       }
 
@@ -109,7 +103,7 @@ abbrev pub Onto : List ℕ → ℕ → ℕ → Type 0
 Onto F p p₁ = (u : Word) (c : Child) (cs : List Child) → Spot F u (c ∷ cs) p → Spot F c.after cs p₁
 
 -- A word was put, and the call for the child that is next, to which the room is lent on from its end, left ys there and answered r.
-pub record Called (F P : List ℕ) (levels : ℕ) (R : List ℕ) (end next left p : ℕ) (R₁ : List ℕ) (end₁ : ℕ) (ys : List ℕ) (r : ℕ) : Type 0 where
+pub record Called (F P : List ℕ) (levels : ℕ) (R : List ℕ) (end next left p : ℕ) (R₁ : List ℕ) (end₁ : ℕ) (ys : List ℕ) (r : Written) : Type 0 where
   pub put : Put F p end R R₁ end₁
   pub wrote : NodeWrites F P (levels - 1) next (length (take (length R₁ - end₁) (drop end₁ R₁))) ys r
   pub tidy : Tidy (take (length R₁ - end₁) (drop end₁ R₁)) ys r
@@ -121,7 +115,7 @@ part_front R ys more e m l h =
     ap (λ (k : ℕ). take (k + m) (take e R ++ (ys ++ more))) (sym (length-take-le e R l)) ∙ take-append-add (take e R) (ys ++ more) m
     ∙ ap (λ (x : List ℕ). take e R ++ x) (take-append-le m ys more h)
 
-module _ {F P : List ℕ} {levels : ℕ} {R : List ℕ} {end next left p : ℕ} {R₁ : List ℕ} {end₁ : ℕ} {ys : List ℕ} {r : ℕ}
+module _ {F P : List ℕ} {levels : ℕ} {R : List ℕ} {end next left p : ℕ} {R₁ : List ℕ} {end₁ : ℕ} {ys : List ℕ} {r : Written}
     (b : Called F P levels R end next left p R₁ end₁ ys r) where
   -- As many letters are lent as are left.
   called_room : length (take (length R₁ - end₁) (drop end₁ R₁)) ≡ length R₁ - end₁
@@ -132,7 +126,7 @@ module _ {F P : List ℕ} {levels : ℕ} {R : List ℕ} {end next left p : ℕ} 
   called_long = same_len_mid end₁ (length R₁ - end₁) R₁ ys b.tidy.long ∙ b.put.long
 
   -- The call's letters are within the room.
-  pub called_letters : end₁ + r / 65536 ≤ length R
+  pub called_letters : end₁ + r.letters ≤ length R
   called_letters = omega (arith, called_room, b.tidy.letters, b.put.within, b.put.long)
 
   module _ {at n : ℕ} (g : Writing F P levels at n R end next left p) (long : length R ≡ n)
@@ -172,30 +166,31 @@ module _ {F P : List ℕ} {levels : ℕ} {R : List ℕ} {end next left p : ℕ} 
 
     -- The word after it is next.
     part_more : (p₁ : ℕ) → Onto F p p₁
-        → PartWritten F P (put_mid end₁ (length R₁ - end₁) R₁ ys) M (levels - 1) (at + length (preorder t)) w (end₁ + r / 65536) (r % 65536) (left - 1) p₁
+        → PartWritten F P (put_mid end₁ (length R₁ - end₁) R₁ ys) M (levels - 1) (at + length (preorder t)) w (end₁ + r.letters) r.place (left - 1) p₁
     part_more p₁ onto =
         let c = child_next in
         let s = child_written in
-        let x : r / 65536 ≡ length c.x = omega (arith, s.answer, child_inside) in
-        let y : r % 65536 ≡ next + length (preorder c.t) = omega (arith, s.answer, child_inside) in
+        let x = s.letters in
+        let y = s.place in
         record {
           acc = before.acc ++ before.u ++ c.x;
           u = c.child.after;
           v = c.y;
           cs = c.others;
           front =
-              part_front R₁ ys (drop (length R₁ - end₁) (drop end₁ R₁)) end₁ (r / 65536) (omega (arith, b.put.within, b.put.long))
+              part_front R₁ ys (drop (length R₁ - end₁) (drop end₁ R₁)) end₁ (r.letters) (omega (arith, b.put.within, b.put.long))
               (omega (arith, b.tidy.letters, b.tidy.long))
-              ∙ ap (λ (z : List ℕ). z ++ take (r / 65536) ys) word_put.1
+              ∙ ap (λ (z : List ℕ). z ++ take (r.letters) ys) word_put.1
               ∙ ap (λ (k : ℕ). before.acc ++ before.u ++ take k ys) x
               ∙ ap (λ (z : List ℕ). before.acc ++ before.u ++ z) s.front;
           size = omega (arith, x, word_put.0, before.size, length-append (before.acc ++ before.u) c.x, length-append before.acc before.u);
           spot = onto before.u c.child c.others (subst (λ (l : List Child). Spot F before.u l p) c.are before.spot);
-          rest = rw y c.rest;
+          rest =
+              subst⁻¹ (λ (k : ℕ). ChildrenToWrite F P M (levels - 1) (at + length (preorder t)) c.y k (left - 1) c.others) y c.rest;
           whole = before.whole ∙ ap (λ (z : List ℕ). before.acc ++ before.u ++ z) c.whole ∙ simp append_assoc;
         }
 
   -- One child more is written, and the word after it is next.
   pub writing_more : {at n : ℕ} → Writing F P levels at n R end next left p → length R ≡ n → (p₁ : ℕ) → Onto F p p₁
-      → Writing F P levels at n (put_mid end₁ (length R₁ - end₁) R₁ ys) (end₁ + r / 65536) (r % 65536) (left - 1) p₁
+      → Writing F P levels at n (put_mid end₁ (length R₁ - end₁) R₁ ys) (end₁ + r.letters) r.place (left - 1) p₁
   writing_more g long p₁ onto = record { part = λ M q t w d. part_more g long M q t w d p₁ onto }

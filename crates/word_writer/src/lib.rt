@@ -1,13 +1,20 @@
 // The writing pass of the word of a tree, by the plan that measuring left.
 #![tactic(auto)]
 
-ghost use Rattle.std.specs.Prelude.{◌≡◌, ℕ, ◌<◌, ◌≤◌, length};
+ghost use Rattle.std.specs.Prelude.{◌≡◌, ℕ, ◌<◌, length};
 ghost use Rattle.words.specs.Word.{Word};
 ghost use Rattle.words.specs.Told.{Told};
 ghost use Rattle.machine.specs.Machine.{Tree, Table};
 ghost use Rattle.trees.specs.Preorder.{preorder};
 ghost use Rattle.trees.specs.Shape.{tree_most};
 ghost use Rattle.word_writer.specs.WordWritten.{Due, WordWritten, Tidy, GoesOn, EndsBehind};
+
+// What a call wrote: how many letters, and the place behind the tree.
+#[derive(Clone, Copy)]
+pub struct Written {
+    pub letters: usize,
+    pub place: usize,
+}
 
 fn narrow(x: u32) -> usize
     ensures { result ≡ x }
@@ -20,31 +27,19 @@ fn narrow(x: u32) -> usize
 fn goes_on(lower: usize, next: usize, p: usize) -> bool
     ensures { Told (GoesOn lower next p) result }
 {
-    if lower == 0 {
-        return false;
-    }
-    if layout::TREE <= next {
-        return false;
-    }
-    if layout::FRAMES <= p {
-        return false;
-    }
-    true
+    0 < lower && next < layout::TREE && p < layout::FRAMES
 }
 
-// Writes the word of the planned tree at `at` to the front of the room, with so many levels
-// allowed. It calls itself for each child, with one level less, and lends it the room on from its
-// current end. The answer is the letters written, times 65,536, and the place behind the tree.
-// Where a child cannot be called for, it stops at what it has: the place answered is always behind
-// its own, so that no two calls are for one place of the plan.
+// Writes the word of the planned tree at `at` to the front of the room, with so many levels allowed, and calls itself for each child, with the room on.
+// Where a child cannot be called for, it stops at what it has; the place is always behind its own, so that no two calls are for one place of the plan.
 fn node(
     levels: usize,
     plan: &[u32; layout::TREE],
     frames: &[u8; layout::FRAMES],
     at: usize,
     room: &mut [u8],
-) -> usize
-    requires { (0 < levels) × (at < tree_most) × (length room.old ≤ 16777216) }
+) -> Written
+    requires { (0 < levels) × (at < tree_most) }
     ensures word_written { (M : Table) (q : ℕ) (t : Tree) (w : Word) → Due frames.now plan.now at levels (length room.old) M q t w
         → WordWritten w at (length (preorder t)) room.new result }
     ensures tidy { Tidy room.old room.new result }
@@ -56,18 +51,19 @@ fn node(
     let mut left = entry / walk::PLAN_UNIT;
     let mut end: usize = 0;
     let mut next = at + 1;
+    // A word stands before each child and behind the last, so the loop ends in its middle, and no range has its turns.
     loop {
         end = word_leaves::put_word(frames, p, room, end);
-        if left == 0 {
-            return end * 65536 + next;
-        }
-        if !goes_on(lower, next, p) {
-            return end * 65536 + next;
+        if left == 0 || !goes_on(lower, next, p) {
+            return Written {
+                letters: end,
+                place: next,
+            };
         }
         p = word_leaves::next_spot_full(frames, p);
         let below = node(lower, plan, frames, next, &mut room[end..]);
-        next = below % 65536;
-        end = end + below / 65536;
+        next = below.place;
+        end += below.letters;
         left -= 1;
     }
 }
@@ -80,18 +76,23 @@ pub fn eval(
     frames: &[u8; layout::FRAMES],
     at: usize,
     room: &mut [u8],
-) -> usize
-    requires { length room.old ≤ 16777216 }
+) -> Written
     ensures word_written { (M : Table) (q : ℕ) (t : Tree) (w : Word) → Due frames.now plan.now at levels (length room.old) M q t w
         → WordWritten w at (length (preorder t)) room.new result }
     ensures tidy { Tidy room.old room.new result }
     ensures ends_behind { EndsBehind at result }
 {
     if layout::TREE <= at {
-        return layout::TREE;
+        return Written {
+            letters: 0,
+            place: layout::TREE,
+        };
     }
     if levels == 0 {
-        return at + 1;
+        return Written {
+            letters: 0,
+            place: at + 1,
+        };
     }
     node(levels, plan, frames, at, room)
 }

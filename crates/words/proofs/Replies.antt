@@ -18,7 +18,7 @@ module _ {A : Type 0} where
   given_refused a n p e = let z : ◌≡◌ {A = ℕ} 0 1 = cc in omega arith
 
   -- Two equal yeses hold one value.
-  pub given_injective : (a b : A) → given a ≡ given b → a ≡ b
+  pub given_injective : (a b : A) → ◌≡◌ {A = Reply A} (given a) (given b) → a ≡ b
   given_injective a b e = cc
 
   -- Equal refusals are one no.

@@ -1,10 +1,11 @@
 -- Answers: yes with what it holds, or one number of no with its place. Definitions only.
-use Rattle.std.specs.Prelude.{Bool, true, false, ℕ}
+use Rattle.std.specs.Prelude.{Bool, true, false, ℕ, Result}
 use Rattle.words.specs.declared.No.{No}
+pub use Rattle.std.specs.declared.result.Result.TheVariants.{Ok as given, Err as refusal}
 
-pub data Reply (A : Type 0) : Type 0 where
-  given : A → Reply A
-  refusal : No → Reply A
+-- Yes with what it holds, or the no.
+abbrev pub Reply : Type 0 → Type 0
+Reply A = Result A No
 
 -- The no with number n and place p, and the answer that is this no.
 abbrev pub no_at : ℕ → ℕ → No

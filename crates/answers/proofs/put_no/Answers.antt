@@ -1,26 +1,24 @@
--- `put_no` meets its contract: at each turn the numbers up to i are put.
+-- `put_no` meets its contract: at each turn the numbers before the next one are put.
 use mathlib.Core.Path.{ap}
 use lib.Seq.{take_all}
 use Rattle.answers.specs.Lines.{blanked}
-use Rattle.output.proofs.Queues.{queued_none, queued_as, queued_then}
+use Rattle.output.proofs.Queues.{put_none, put_as, put_then}
 use Rattle.answers.proofs.Texts.{blanked_next}
 use borrow.Author.Rules.{rules}
 use Rattle.answers.proofs.put_no.Goals as goal
 
-pub loop-i-init : goal.loop-i-init
+pub loop-number-init : goal.loop-number-init
 unfolding blanked
-loop-i-init c =
-    (search rules, queued_none _ _)
+loop-number-init c =
+    put_none
 
-pub loop-i-preserved : goal.loop-i-preserved
-loop-i-preserved c = (
-  search rules,
-  queued_as (blanked_next c.args.numbers.now c.loop-i.i (search rules))
-      (queued_then (queued_then c.loop-i.invariant.1 c.put-at.ensures) c.put_number-at.ensures),
-)
+pub loop-number-preserved : goal.loop-number-preserved
+loop-number-preserved c =
+    put_as (blanked_next c.args.numbers.now c.loop-number.number-index (search rules))
+    (put_then (put_then c.loop-number.invariant c.put.ensures) c.put_number.ensures)
 
 pub returns : goal.returns
 returns c =
-    queued_then
-    (queued_then c.put_all-at.ensures (queued_as (ap blanked (take_all c.loop-i.i c.args.numbers.now (search rules))) c.loop-i.invariant.1))
-    c.put.ensures
+    put_then
+    (put_then c.put_all.ensures (put_as (ap blanked (take_all c.loop-number.number-index c.args.numbers.now (search rules))) c.loop-number.invariant))
+    c.put-2.ensures

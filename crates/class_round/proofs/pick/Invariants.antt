@@ -1,6 +1,6 @@
 -- `pick` meets its contract: no state passed leads q.
 use mathlib.Core.Path.{◌≡◌}
-use Prim.Native.Nat.{ℕ, ◌-◌, ◌<◌, ◌≤◌}
+use Prim.Native.Nat.{ℕ, ◌<◌}
 use Rattle.machine.specs.Machine.{Table}
 use Rattle.layout.specs.Layout.{Opened}
 use Rattle.class_round.specs.Round.{RoundBegun, Leads}
@@ -8,9 +8,6 @@ use Rattle.class_round.proofs.pick.Given as goal
 
 abbrev pub invariant-loop-r : goal.invariant-loop-r
 invariant-loop-r l =
-    (l.r ≤ l.q) × ((M : Table) (n : ℕ) → Opened l.frames l.numbers M → n ≡ M.states → l.q < n → RoundBegun l.first M n l.rep → (p : ℕ) → p < l.r → Leads M l.rep
-    l.next l.q p → ⊥)
-
-abbrev pub decreases-loop-r : goal.decreases-loop-r
-decreases-loop-r l =
-    l.q - l.r
+    (M : Table) (n : ℕ) → Opened l.table.frames.now l.table.numbers.now M → n ≡ M.states → l.q < n → RoundBegun l.first M n l.rep → (p : ℕ) → p < l.r → Leads M
+    l.rep
+    l.next l.q p → ⊥

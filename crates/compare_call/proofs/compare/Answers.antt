@@ -6,9 +6,9 @@ pub returns : goal.returns
 returns c =
     law.texts_compared c.compare_opened.result
     (record {
-      one = c.judge_into-a.ensures;
-      early = c.in-Earliest.is;
-      two = c.judge_into-b.ensures;
-      early2 = c.in-Earliest-b.is;
+      one = c.judge_into.ensures;
+      early = law.not_handed c.judge_into.result c.map_err.result c.in_ok-map_err.was c.map_err.ensures.variant;
+      two = c.judge_into-2.ensures;
+      early2 = law.not_handed c.judge_into-2.result c.map_err-2.result c.in_ok-map_err-2.was c.map_err-2.ensures.variant;
     })
     c.compare_opened.ensures

@@ -1,17 +1,13 @@
 -- `compare_opened` meets its contract: 19, or whether the forms are one. Assumes nothing.
-use Rattle.comparison.proofs.Forms.{lists_apart, forms_same, forms_differ}
+use Rattle.comparison.proofs.Forms.{lists_apart, forms_told}
 use Rattle.comparison.proofs.compare_opened.Goals as goal
 
-pub returns-in_default : goal.returns-in_default
-returns-in_default c =
+pub returns-in-Some : goal.returns-in-Some
+returns-in-Some c =
     λ M N o E p D. lists_apart (c.same_forms-same.ensures M N o E p D) c.symbols_part-parted.result (c.symbols_part-parted.ensures M N o p)
-    c.in_default.field-0 c.in_default.is c.apart.ensures
+    c.in-Some.place c.in-Some.is
 
-pub returns-then-same : goal.returns-then-same
-returns-then-same c =
-    λ M N o E p D. forms_same (c.same_forms-same.ensures M N o E p D) c.if-same.true
-
-pub returns-else-same : goal.returns-else-same
-returns-else-same c =
-    λ M N o E p D. forms_differ (c.same_forms-same.ensures M N o E p D) c.symbols_part-parted.result (c.symbols_part-parted.ensures M N o
-    p) c.in-Nowhere.is c.if-same.false
+pub returns-in-None : goal.returns-in-None
+returns-in-None c =
+    λ M N o E p D. forms_told c.same_forms-same.result (c.same_forms-same.ensures M N o E p D) c.symbols_part-parted.result
+    (c.symbols_part-parted.ensures M N o p) c.in-None.is

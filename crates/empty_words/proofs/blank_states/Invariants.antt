@@ -6,7 +6,3 @@ use Rattle.empty_words.proofs.blank_states.Given as goal
 abbrev pub invariant-loop-i : goal.invariant-loop-i
 invariant-loop-i l =
     Grown l.initial.values l.values l.k × Marks l.numbers (ListedBetween l.order l.i l.n) l.initial.values l.values l.k
-
-abbrev pub decreases-loop-i : goal.decreases-loop-i
-decreases-loop-i l =
-    l.i

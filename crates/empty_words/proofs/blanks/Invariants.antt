@@ -1,7 +1,5 @@
 -- `blanks` meets its contract. Invariant: what is told is true. The measure is what is left to be known.
-use mathlib.Core.Path.{◌≡◌}
 use Prim.Native.Nat.{◌-◌, ◌*◌}
-use lib.ListN.{length}
 use Rattle.text.specs.Limits.{states_most}
 use Rattle.end_laws.specs.Ends.{ranks}
 use Rattle.layout.specs.Layout.{MeantBy}
@@ -11,7 +9,7 @@ use Rattle.empty_words.proofs.blanks.Given as goal
 
 abbrev pub invariant-loop-k : goal.invariant-loop-k
 invariant-loop-k l =
-    (length l.values ≡ states_most) × MeantBy l.numbers (λ M. Blanks M l.values)
+    MeantBy l.numbers (λ M. Blanks M l.values)
 
 abbrev pub decreases-loop-k : goal.decreases-loop-k
 decreases-loop-k l =

@@ -1,5 +1,5 @@
 -- `has_blank` meets its contract. Invariant: no rule of the state before number i is such a rule.
-use Prim.Native.Nat.{◌-◌, ◌≤◌}
+use Prim.Native.Nat.{◌≤◌}
 use Rattle.text.specs.Limits.{rows_most}
 use Rattle.layout.specs.Layout.{MeantBy}
 use Rattle.layout.specs.Leaves.{RulesOf}
@@ -8,8 +8,4 @@ use Rattle.empty_words.proofs.has_blank.Given as goal
 
 abbrev pub invariant-loop-i : goal.invariant-loop-i
 invariant-loop-i l =
-    (l.initial.i ≤ l.i) × (l.to ≤ rows_most) × MeantBy l.numbers (λ M. RulesOf M l.q l.initial.i l.to × NoneBefore M l.values l.initial.i l.i)
-
-abbrev pub decreases-loop-i : goal.decreases-loop-i
-decreases-loop-i l =
-    l.to - l.i
+    (l.i-end ≤ rows_most) × MeantBy l.numbers (λ M. RulesOf M l.q l.initial.i l.i-end × NoneBefore M l.values l.initial.i l.i)

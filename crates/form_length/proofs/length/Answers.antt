@@ -14,9 +14,9 @@ returns c =
     λ same M N o D h.
     let n : c.most.result ≡ c.args.n = c.most.ensures.1 (count_within h o.limited D) in
     let number = number_in same (order same M) in
-    let r = c.states_length-rules.ensures.states_long c.args.frames.now M number o (omega (arith, order_there h))
+    let r = c.states_length-rules.ensures.states_long c.args.table.now.frames.now M number o (omega (arith, order_there h))
     ∙ ap (λ (k : ℕ). length (row_lines (renumbered number M.rows 0 (take k c.args.order.now)))) n in
     form_long same M c.args.order.now c.args.n c.symbols.result (length c.word_before-before.result.now) (length
     c.word_after-after.result.now) c.states_length-rules.result h.listed
-    (c.symbols.ensures.meant_by c.args.frames.now M o) (ap length (c.word_before-before.ensures.meant M o)) (ap length
+    (c.symbols.ensures.meant_by c.args.table.now.frames.now M o) (ap length (c.word_before-before.ensures.meant M o)) (ap length
     (c.word_after-after.ensures.meant M o)) r

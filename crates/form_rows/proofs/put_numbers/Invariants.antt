@@ -12,8 +12,12 @@ use Rattle.form_rows.proofs.put_numbers.Given as goal
 
 abbrev pub invariant-loop-pos : goal.invariant-loop-pos
 invariant-loop-pos l =
-    (length l.room ≡ length l.initial.room) × ((R : List ℕ) (r : Rule) → l.text ≡ rule_text r → l.initial.room ≡ sets R l.at (hex_of l.text) → Renaming l.text
-    l.names r R l.at l.room l.pos)
+    record {
+      same_room : l.pen.room.ghost_name ≡ l.initial.pen.room.ghost_name;
+      stays : l.pen.at ≡ l.initial.pen.at;
+      renaming : (R : List ℕ) (r : Rule) → l.text ≡ rule_text r → l.initial.pen.room.now ≡ sets R l.at (hex_of l.text) → Renaming l.text l.names r R l.at
+          l.pen.room.now l.pos;
+    }
 
 abbrev pub decreases-loop-pos : goal.decreases-loop-pos
 decreases-loop-pos l =

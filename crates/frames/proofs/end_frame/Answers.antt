@@ -2,6 +2,10 @@
 use Rattle.frames.proofs.EndFrame as law
 use Rattle.frames.proofs.end_frame.Goals as goal
 
+pub returns-in_err-finish : goal.returns-in_err-finish
+returns-in_err-finish c R M a kind =
+    law.end_over a c.args.cursor.at c.args.cursor.end _ _ c.from_residual.ensures.1 c.in_err-finish.ensures c.args.cursor.inside
+
 pub returns : goal.returns
-returns c F R M a kind inside =
-    law.end_next a c.args.at c.args.end c.if-at-end.false c.requires.0 c.requires.1 inside kind
+returns c R M a kind =
+    law.end_next a c.args.cursor.at c.args.cursor.end c.in_ok-finish.ensures c.requires c.args.cursor.before_end c.args.cursor.inside kind

@@ -1,10 +1,15 @@
 -- `levels` meets its contract.
+use mathlib.Core.Path.{◌≡◌, ap, ◌∙◌}
 use native.Mathlib.Omega.{arith}
 use borrow.Author.Rules.{rules}
-use Rattle.image_levels.proofs.Steps.{climbing_some, climbing_free, climbing_byte}
-use Rattle.image_levels.proofs.Steps.{climbing_deeper, climbing_fit}
+use lib.ListN.{length}
+use Rattle.words.specs.Reply.{refused}
+use Rattle.image_levels.proofs.Steps.{climbing_some, climbing_free, climbing_byte, climbing_deeper, climbing_fit}
 use Rattle.image_levels.proofs.levels.Goals as goal
-use Rattle.image_levels.proofs.levels.Goals.{else-loop-i-test, then-loop-i-test+then-left-eq0}
+
+pub returns-then-left-eq0 : goal.returns-then-left-eq0
+returns-then-left-eq0 c =
+    λ ar a r s h n e l. c.deeper_at.ensures ∙ climbing_deeper c.loop-i.invariant (search rules) ar a r s h n e l c.if-left-eq0.true
 
 pub bounds-stack-top : goal.bounds-stack-top
 bounds-stack-top c =
@@ -24,13 +29,11 @@ loop-i-preserved c =
 
 pub returns-then-left-eq0-2 : goal.returns-then-left-eq0-2
 returns-then-left-eq0-2 c =
-    λ ar a r s h n e l. climbing_deeper c.loop-i.invariant (search rules) ar a r s h n e l c.if-left-eq0-2.true
+    λ ar a r s h n e l.
+    let all : length c.args.bytes.now ≡ c.loop-i.i = omega arith in
+    c.deeper_at-then-left-eq0-2.ensures ∙ ap (refused 10) all
+    ∙ climbing_deeper c.loop-i.invariant (search rules) ar a r s h n e l c.if-left-eq0-2.true
 
 pub returns : goal.returns
 returns c =
-    λ ar a r s h n e l.
-    climbing_fit c.loop-i.invariant (search rules) ar a r s h n e l c.if-left-eq0-2.false
-    (elim c.loop-i-test.branch [
-      | else-loop-i-test w ↦ w.loop-i-test.false
-      | then-loop-i-test+then-left-eq0 w ↦ absurd (c.if-left-eq0-2.false w.if-left-eq0.true)
-    ])
+    λ ar a r s h n e l. climbing_fit c.loop-i.invariant (search rules) ar a r s h n e l c.if-left-eq0-2.false c.loop-i-test.false

@@ -1,7 +1,7 @@
--- `judge_into` meets its contract: the refusal of the text, or the judgement of the opened table. Assumes nothing.
+-- `judge_into` meets its contract: the judgement of the opened table. Assumes nothing.
 use Rattle.judge_call.proofs.Readings.{table_judges}
 use Rattle.judge_call.proofs.judge_into.Goals as goal
 
 pub returns : goal.returns
 returns c =
-    table_judges c.read-opening.new.bytes c.read-opening.new.numbers c.read-opening.ensures c.in-Table.is c.judge_opened.ensures
+    table_judges c.read.new.bytes c.read.new.numbers c.read.ensures c.in_ok-read.was c.judge_opened.ensures

@@ -1,14 +1,9 @@
--- `total` meets its contract: at each turn the counts up to i are summed. The measure is how many are left.
-use Prim.Native.Nat.{◌≤◌, ◌-◌}
+-- `total` meets its contract: at each turn the counts before the next one are summed.
 use mathlib.Core.Path.{◌≡◌}
-use lib.ListN.{length, take}
+use lib.ListN.{take}
 use Rattle.line_counts.specs.Counts.{capped, sum}
 use Rattle.line_counts.proofs.total.Given as goal
 
-abbrev pub invariant-loop-i : goal.invariant-loop-i
-invariant-loop-i l =
-    (l.i ≤ length l.counts) × (l.all ≡ capped (sum (take l.i l.counts)))
-
-abbrev pub decreases-loop-i : goal.decreases-loop-i
-decreases-loop-i l =
-    length l.counts - l.i
+abbrev pub invariant-loop-count : goal.invariant-loop-count
+invariant-loop-count l =
+    l.all ≡ capped (sum (take l.count-index l.counts))

@@ -7,4 +7,6 @@ use Rattle.lines.proofs.digit_values.Goals as goal
 pub returns : goal.returns
 unfolding right digit
 returns c =
-    right_valued _ refl tt
+    let d = c.copy_from_slice-2.ensures.after in
+    let e = c.copy_from_slice.ensures.after in
+    rw (d, e) (right_valued _ refl tt)

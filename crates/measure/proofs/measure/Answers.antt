@@ -1,5 +1,6 @@
 -- `measure` meets its contract.
 use mathlib.Core.Path.{refl, subst}
+use native.Mathlib.Omega.{arith}
 use Prim.Native.Nat.{ℕ}
 use borrow.Author.Rules.{rules}
 use lib.ListN.{get_or}
@@ -11,13 +12,13 @@ use Rattle.measure.proofs.measure.Goals.{After-kept_for_full-x, Else-not-usual}
 
 -- What comes next can be looked up.
 met : (c : Else-not-usual) →
-    Usual c.wide-f.result c.loop-at.next c.loop-at.top
+    Usual c.from-f.result c.loop-at.next c.loop-at.stack.top
 met c = c.usual.ensures.if_true c.if-not-usual.false
 
 -- What is kept for the number that comes next and its symbol.
 kept : (c : After-kept_for_full-x) →
     KeptAt c.args.numbers.now c.loop-at.next (get_or c.args.tree.now c.loop-at.at 0) c.kept_for_full-x.result
-kept c = subst (λ (f : ℕ). KeptAt c.args.numbers.now c.loop-at.next f c.kept_for_full-x.result) c.wide-f.ensures.0 c.kept_for_full-x.ensures
+kept c = subst (λ (f : ℕ). KeptAt c.args.numbers.now c.loop-at.next f c.kept_for_full-x.result) c.from-f.ensures c.kept_for_full-x.ensures
 
 pub returns-then-not-ready-clause-by_index : goal.returns-then-not-ready-clause-by_index
 returns-then-not-ready-clause-by_index c =
@@ -26,12 +27,13 @@ returns-then-not-ready-clause-by_index c =
 pub loop-at-init : goal.loop-at-init
 loop-at-init c =
     let r = c.ready.ensures.if_true c.if-not-ready.false in
-    measuring_first c.args.numbers.now c.args.tree.now _ _ c.start-next.result r.short r.places refl c.start-next.ensures.meant_by
+    rw c.new-stack.ensures.0
+    (measuring_first c.args.numbers.now c.args.tree.now _ _ c.start-next.result r.short r.places c.new-stack.ensures.1 c.start-next.ensures.meant_by)
 
 pub returns-then-not-usual-clause-by_index : goal.returns-then-not-usual-clause-by_index
 returns-then-not-usual-clause-by_index c =
     λ F M o. measuring_unusual c.loop-at.invariant F M o c.loop-at-test.true
-    (λ u. c.usual.ensures.if_false c.if-not-usual.true (rw c.wide-f.ensures.0 u))
+    (λ u. c.usual.ensures.if_false c.if-not-usual.true (rw c.from-f.ensures u))
 
 pub returns-then-x-eq0-clause-by_index : goal.returns-then-x-eq0-clause-by_index
 returns-then-x-eq0-clause-by_index c =
@@ -43,8 +45,8 @@ returns-then-x-eq0-clause-by_index c =
 pub loop-at-preserved : goal.loop-at-preserved
 loop-at-preserved c =
     let here = goal.at.loop-at-preserved c in
-    measuring_next c.loop-at.invariant _ c.loop-at-test.true
-    (subst (λ (f : ℕ). Usual f c.loop-at.next c.loop-at.top) c.wide-f.ensures.0 (met here.Else-not-usual))
+    measuring_next c.loop-at.invariant c.loop-at-test.true
+    (subst (λ (f : ℕ). Usual f c.loop-at.next c.loop-at.stack.top) c.from-f.ensures (met here.Else-not-usual))
     (kept here.After-kept_for_full-x) c.if-x-eq0.false
     (record {
       planned = c.plan_of.ensures;
@@ -52,16 +54,16 @@ loop-at-preserved c =
       few = c.letters_in-sum.ensures.upper_bound;
       written = c.letters_in-sum.ensures.by_index;
       counted = refl;
-      made = c.turn-next.ensures;
-      kids_few = c.kids_in.ensures.upper_bound;
-      kids = c.kids_in.ensures.by_index;
+      made = c.turn-next.ensures.made;
+      kids_few = c.turn-next.ensures.few;
+      kids = c.turn-next.ensures.top;
     })
-    refl
 
-pub returns-then-top-gt0-clause-by_index : goal.returns-then-top-gt0-clause-by_index
-returns-then-top-gt0-clause-by_index c =
-    λ F M o. measuring_early c.loop-at.invariant F M o c.loop-at-test.false c.if-top-gt0.true
+pub returns-then-not-is_empty-clause-by_index : goal.returns-then-not-is_empty-clause-by_index
+returns-then-not-is_empty-clause-by_index c =
+    λ F M o. measuring_early c.loop-at.invariant F M o c.loop-at-test.false
+    (omega (arith, c.is_empty.ensures.if_false c.if-not-is_empty.true))
 
 pub returns-clause-by_index : goal.returns-clause-by_index
 returns-clause-by_index c =
-    measuring_last c.loop-at.invariant c.loop-at-test.false c.if-top-gt0.false
+    measuring_last c.loop-at.invariant c.loop-at-test.false (omega (arith, c.is_empty.ensures.if_true c.if-not-is_empty.false))

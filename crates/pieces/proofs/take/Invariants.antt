@@ -2,14 +2,15 @@
 use Prim.Native.Nat.{◌-◌}
 use mathlib.Core.Path.{◌≡◌}
 use lib.ListN.{length}
+use Rattle.respond.specs.Response.{SameRoom}
 use Rattle.pieces.specs.Piece.{PieceSoFar}
 use Rattle.pieces.proofs.take.Given as goal
 
 abbrev pub invariant-loop-at : goal.invariant-loop-at
 invariant-loop-at l =
-    PieceSoFar l.asked l.frames l.numbers l.initial.tree l.initial.line l.opening (length l.initial.room) l.piece l.initial.out l.at l.used l.out l.tree l.line
-    × (length l.room ≡ length l.initial.room)
-    × (length l.out ≡ length l.initial.out)
+    PieceSoFar l.question.asked l.question.frames.now l.question.numbers.now l.initial.tree l.initial.line l.question.opening
+    (length l.initial.scratch.room.now) l.piece l.initial.out l.at l.out l.tree l.line
+    × SameRoom l.initial.scratch.room l.scratch.room
     × (length l.counts ≡ length l.initial.counts)
 
 abbrev pub decreases-loop-at : goal.decreases-loop-at

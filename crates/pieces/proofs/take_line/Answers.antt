@@ -11,7 +11,7 @@ returns-then-at-piece-clause-by_index c =
     (so_far_as c.args.piece.now c.with_rest-line.ensures
     (so_far_fed c.args.piece.now c.args.at c.feed_all-fed.result.taken g c.feed_all-fed.ensures.up_to_feed c.feed_all-fed.ensures.by_index
     c.feed_all-fed.auto.tree))
-    refl c.answer-used.ensures c.start-line.ensures c.if-at-piece.true
+    refl c.answer.ensures.answered c.start.ensures c.if-at-piece.true
     (taken_feed c.args.piece.now c.args.at c.feed_all-fed.result.taken c.feed_all-fed.ensures.up_to_feed c.if-at-piece.true)
 
 pub returns-clause-by_index : goal.returns-clause-by_index

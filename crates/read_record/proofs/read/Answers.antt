@@ -1,9 +1,9 @@
 -- `read` meets its contract: 20 for the list, or the reading under its last symbol.
-use mathlib.Core.Path.{sym, ap, ◌∙◌}
-use Rattle.record_symbols.specs.LastTold.{last_told}
+use Rattle.std.proofs.lemmas.Result.{err_from_is_err_and}
 use Rattle.read_record.proofs.Under as law
 use Rattle.read_record.proofs.read.Goals as goal
 
-pub returns-in-Refused-clause-meant : goal.returns-in-Refused-clause-meant
-returns-in-Refused-clause-meant c =
-    λ M o. law.symbols_refused M.arities c.args.stream.now (sym (ap last_told c.in-Refused.is) ∙ c.last_symbol.ensures M o)
+pub returns-in_err-last-clause-meant : goal.returns-in_err-last-clause-meant
+returns-in_err-last-clause-meant c =
+    let p = err_from_is_err_and c.from_residual.result c.from_residual.ensures.1 in
+    rw (p.1, p.2) (λ M o. law.symbols_refused M.arities c.args.stream.now (c.in_err-last.ensures M o))

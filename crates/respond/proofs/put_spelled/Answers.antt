@@ -2,6 +2,6 @@
 use Rattle.respond.proofs.Laws as law
 use Rattle.respond.proofs.put_spelled.Goals as goal
 
-pub returns-in-Refused : goal.returns-in-Refused
-returns-in-Refused c =
-    λ a R h. law.bytes_refused c.args.name.now a R _ _ _ _ _ _ _ c.in-Refused.is h c.refused.ensures
+pub returns-in-Err : goal.returns-in-Err
+returns-in-Err c =
+    λ a R h. law.bytes_refused c.args.name.now a R _ _ _ _ _ _ c.in-Err.is h c.refused.ensures

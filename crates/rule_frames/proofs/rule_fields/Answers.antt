@@ -5,34 +5,28 @@ use Rattle.fields.proofs.Words as word
 use Rattle.fields.proofs.Siblings as kids
 use Rattle.rule_frames.proofs.RuleFields as law
 use Rattle.rule_frames.proofs.rule_fields.Goals as goal
-use Rattle.rule_frames.proofs.rule_fields.Goals.{In-Got, In-Got-rest}
+use Rattle.rule_frames.proofs.rule_fields.Goals.{In_ok-first}
 
 -- What the first word gives.
-first_read : (c : In-Got) →
-    word.IsWord c.args.frames.now c.args.at c.args.end c.in-Got.n c.in-Got.behind (text.text (slice c.args.at c.args.end c.args.frames.now))
-first_read c = word.got_word c.args.frames.now c.args.at c.args.end _ _ _ c.word-first.result c.in-Got.is c.word-first.ensures
+first_read : (c : In_ok-first) →
+    word.IsWord c.args.cursor.now.frames.now c.args.cursor.now.at c.args.cursor.now.end c.in_ok-first.first c.word.new.self.at
+    (text.text (slice c.args.cursor.now.at c.args.cursor.now.end c.args.cursor.now.frames.now))
+first_read c = word.got_word _ _ _ _ _ _ c.in_ok-first.ensures.read
 
--- What the children give.
-rest_read : (c : In-Got-rest) →
-    kids.IsFamily c.args.frames.now c.in-Got.behind c.args.end c.in-Got-rest.next c.in-Got-rest.more c.in-Got-rest.packed
-    (text.children c.args.states c.args.count (slice c.in-Got.behind c.args.end c.args.frames.now))
-rest_read c = kids.got_kids c.args.frames.now c.in-Got.behind c.args.end _ _ _ _ c.children-rest.result c.in-Got-rest.is c.children-rest.ensures
+pub returns-in_err-first-clause-read : goal.returns-in_err-first-clause-read
+returns-in_err-first-clause-read c =
+    law.first_stops c.args.cursor.now.frames.now c.args.i c.args.cursor.now.at c.args.cursor.now.end c.word.new.self.at c.args.states c.args.count _ _
+    c.from_residual.ensures.1 c.word.new.self.at c.in_err-first.ensures.read
 
-pub returns-in_default : goal.returns-in_default
-returns-in_default c =
-    law.first_stops c.args.frames.now c.args.i c.args.at c.args.end c.args.states c.args.count c.in_default.field-0 _ c.word-first.result
-    c.in_default.is c.number_of.ensures c.word-first.ensures
+pub returns-in_err-rest-clause-read : goal.returns-in_err-rest-clause-read
+returns-in_err-rest-clause-read c =
+    let w = rw (c.word.ensures.frames, c.word.ensures.end) at c.in_err-rest.ensures.read in
+    law.rest_stops c.args.cursor.now.frames.now c.args.i c.args.cursor.now.at c.args.cursor.now.end c.children.new.self.at c.args.states c.args.count _ _
+    c.from_residual-in_err-rest.ensures.1 _ _ c.children.new.self.at
+    (first_read (goal.at.returns-in_err-rest-clause-read c).In_ok-first) w
 
-pub returns-in_default-rest : goal.returns-in_default-rest
-returns-in_default-rest c =
-    let here = goal.at.returns-in_default-rest c in
-    law.rest_stops c.args.frames.now c.args.i c.args.at c.args.end c.args.states c.args.count c.in-Got.behind c.in_default-rest.field-0 _ _
-    c.children-rest.result
-    (first_read here.In-Got) c.in_default-rest.is c.kids_number.ensures c.children-rest.ensures
-
-pub returns : goal.returns
-returns c =
-    let here = goal.at.returns c in
-    law.rule_got c.args.frames.now c.args.i c.args.at c.args.end c.args.states c.args.count _ _ _ _ _ c.pack.result (first_read here.In-Got)
-    (rest_read here.In-Got-rest)
-    c.pack.ensures
+pub returns-clause-read : goal.returns-clause-read
+returns-clause-read c =
+    let w = rw (c.word.ensures.frames, c.word.ensures.end) at c.in_ok-rest.ensures.read in
+    law.rule_got _ c.args.i _ _ c.args.states c.args.count _ _ _ _ _ c.pack.result
+    (first_read (goal.at.returns-clause-read c).In_ok-first) (kids.got_kids _ _ _ _ _ _ w) c.pack.ensures

@@ -10,22 +10,24 @@ pub returns-then-arity : goal.returns-then-arity
 returns-then-arity c =
     λ I J M N o p l m.
     record {
-      most = c.loop-i.invariant.0;
-      same = c.loop-i.invariant.1 I J M N o p l m;
+      most = omega (arith, c.loop-i-test.true);
+      same = c.loop-i.invariant I J M N o p l m;
       apart = λ h e. c.if-arity.true (c.arity.ensures.by_index I M o (omega (arith, c.loop-i-test.true, l)) ∙ e ∙ sym
           (c.arity-in-loop-i.ensures.by_index J N p (omega (arith, c.loop-i-test.true, m))));
     }
 
 pub loop-i-preserved : goal.loop-i-preserved
-loop-i-preserved c = (
-  omega arith,
-  λ I J M N o p l m.
-      below_more (λ (j : ℕ). get_or M.arities j 0 ≡ get_or N.arities j 0) c.loop-i.i (c.loop-i.invariant.1 I J M N o p l m)
-      (sym (c.arity.ensures.by_index I M o (omega (arith, c.loop-i-test.true, l))) ∙ c.if-arity.false ∙
-      c.arity-in-loop-i.ensures.by_index J N p (omega (arith, c.loop-i-test.true, m))),
-)
+loop-i-preserved c =
+    λ I J M N o p l m.
+    below_more (λ (j : ℕ). get_or M.arities j 0 ≡ get_or N.arities j 0) c.loop-i.i (c.loop-i.invariant I J M N o p l m)
+    (sym (c.arity.ensures.by_index I M o (omega (arith, c.loop-i-test.true, l))) ∙ c.if-arity.false ∙
+    c.arity-in-loop-i.ensures.by_index J N p (omega (arith, c.loop-i-test.true, m)))
 
 pub returns : goal.returns
 returns c =
     λ I J M N o p l m.
-    record { most = c.loop-i.invariant.0; same = c.loop-i.invariant.1 I J M N o p l m; apart = λ h e. absurd (omega (arith, h, c.loop-i-test.false)) }
+    record {
+      most = omega arith;
+      same = λ j h. c.loop-i.invariant I J M N o p l m j (omega (arith, h, c.loop-i-test.false));
+      apart = λ h e. absurd (omega (arith, h));
+    }

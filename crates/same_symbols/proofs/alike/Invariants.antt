@@ -1,7 +1,7 @@
 -- `alike` meets its contract: the symbols passed have one arity in both tables.
 use mathlib.Core.Path.{◌≡◌}
 use mathlib.Core.List.{List}
-use Prim.Native.Nat.{ℕ, ◌-◌, ◌<◌, ◌≤◌}
+use Prim.Native.Nat.{ℕ, ◌<◌, ◌≤◌}
 use lib.ListN.{length, get_or}
 use Rattle.machine.specs.Machine.{Table}
 use Rattle.layout.specs.Layout.{Opened}
@@ -9,9 +9,5 @@ use Rattle.same_symbols.proofs.alike.Given as goal
 
 abbrev pub invariant-loop-i : goal.invariant-loop-i
 invariant-loop-i l =
-    (l.i ≤ l.n) × ((I J : List ℕ) (M N : Table) → Opened l.frames I M → Opened l.frames2 J N → l.n ≤ length M.arities → l.n ≤ length N.arities
-    → (j : ℕ) → j < l.i → get_or M.arities j 0 ≡ get_or N.arities j 0)
-
-abbrev pub decreases-loop-i : goal.decreases-loop-i
-decreases-loop-i l =
-    l.n - l.i
+    (I J : List ℕ) (M N : Table) → Opened l.frames I M → Opened l.frames2 J N → l.n ≤ length M.arities → l.n ≤ length N.arities
+    → (j : ℕ) → j < l.i → get_or M.arities j 0 ≡ get_or N.arities j 0

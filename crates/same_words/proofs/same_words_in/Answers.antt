@@ -30,6 +30,6 @@ returns c =
     let i = c.number_in.ensures.by_index u.number a.rule u.holds in
     let j = c.number_in-2.ensures.by_index v.number b.rule v.holds in
     c.words_from.ensures a.rule.first b.rule.first a.rule.rest b.rule.rest u.opened.bytes v.opened.bytes
-    (c.spot_of-p.ensures.by_index c.args.frames.now M a u.opened (subst (λ (n : ℕ). RowAt M n a) (sym i) u.row))
-    (c.spot_of-s.ensures.by_index c.args.frames2.now N b v.opened (subst (λ (n : ℕ). RowAt N n b) (sym j) v.row))
+    (c.spot_of-p.ensures.by_index c.args.first.now.frames.now M a u.opened (subst (λ (n : ℕ). RowAt M n a) (sym i) u.row))
+    (c.spot_of-s.ensures.by_index c.args.second.now.frames.now N b v.opened (subst (λ (n : ℕ). RowAt N n b) (sym j) v.row))
     k (c.if-kids-kids_in.false ∙ c.kids_in.ensures.by_index v.number b.rule v.holds)

@@ -5,7 +5,7 @@ use Rattle.stream_count.proofs.count_on.Goals as goal
 
 pub loop-i-init : goal.loop-i-init
 loop-i-init c =
-    law.counted_begun c.requires.1 c.requires.0 c.beginning-i.result c.beginning-i.ensures
+    law.counted_begun c.requires.1 c.requires.0 c.beginning-begun.result c.beginning-begun.ensures
 
 pub loop-i-preserved : goal.loop-i-preserved
 loop-i-preserved c =

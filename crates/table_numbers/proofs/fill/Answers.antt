@@ -7,9 +7,9 @@ use Rattle.table_numbers.proofs.fill.Goals as goal
 pub returns : goal.returns
 returns c =
     λ M is rules.
-    filled c.args.numbers.now c.requires.numbers_len.0 c.requires.states_bound.0 c.requires.states_bound.1 is rules
+    filled c.args.numbers.now c.told-numbers c.requires.0 c.requires.1 is rules
     c.put_head.ensures
-    (c.put_firsts.ensures.numbers_put M rules)
+    (c.put_firsts.ensures M rules)
     c.put_rows.ensures
     c.clear.ensures
-    (c.put_entries.ensures.numbers_put M rules (λ k l. c.clear.ensures.here k (omega (arith, ap (λ x. x.states) is))))
+    (c.put_entries.ensures M rules (λ k l. c.clear.ensures.here k (omega (arith, ap (λ x. x.states) is))))

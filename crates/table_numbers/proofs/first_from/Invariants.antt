@@ -1,5 +1,5 @@
--- `first_from` meets its contract. The loop's invariant: the rules before the i-th are passed. The measure is what is left. Assumes nothing.
-use Prim.Native.Nat.{ℕ, ◌+◌, ◌-◌, ◌≤◌}
+-- `first_from` meets its contract. The loop's invariant: the rules before the i-th are passed. Assumes nothing.
+use Prim.Native.Nat.{ℕ, ◌+◌, ◌≤◌}
 use mathlib.Core.Path.{◌≡◌}
 use lib.ListN.{drop}
 use Rattle.machine.specs.Machine.{Table}
@@ -9,9 +9,4 @@ use Rattle.table_numbers.proofs.first_from.Given as goal
 
 abbrev pub invariant-loop-i : goal.invariant-loop-i
 invariant-loop-i l =
-    (l.from ≤ l.i) × (l.i ≤ l.n)
-    × ((M : Table) → RulesNoted l.rules l.n M → (p : ℕ) → l.q ≤ p → l.from + rows_before p (drop l.from M.rows) ≡ l.i + rows_before p (drop l.i M.rows))
-
-abbrev pub decreases-loop-i : goal.decreases-loop-i
-decreases-loop-i l =
-    l.n - l.i
+    (M : Table) → RulesNoted l.rules l.n M → (p : ℕ) → l.q ≤ p → l.from + rows_before p (drop l.from M.rows) ≡ l.i + rows_before p (drop l.i M.rows)

@@ -1,5 +1,6 @@
 -- `terms_of` meets its contract.
 use borrow.Author.Rules.{rules}
+use mathlib.Core.Path.{◌∙◌}
 use mathlib.Core.List.{List}
 use Prim.Native.Nat.{ℕ, ◌+◌}
 use native.Mathlib.Omega.{arith}
@@ -13,9 +14,9 @@ loop-at-init c =
 pub loop-at-preserved : goal.loop-at-preserved
 loop-at-preserved c =
     let u : List ℕ = c.args.word.now in
-    let e = law.piece u c.loop-at.at 224 c.loop-at.n c.whole.result c.loop-at.invariant.1 c.whole.ensures in
+    let e = law.piece u c.loop-at.at 224 c.loop-at.n c.from-n.result c.loop-at.invariant.1 (c.from-n.ensures ∙ c.spaces_in.ensures) in
     (search rules, e, omega (arith, e, law.most u (c.loop-at.at + 224)))
 
 pub returns : goal.returns
 returns c =
-    law.all c.args.word.now c.loop-at.at c.loop-at.n c.last.result c.loop-at.invariant.1 c.last.ensures
+    law.all c.args.word.now c.loop-at.at c.loop-at.n c.from.result c.loop-at.invariant.1 (c.from.ensures ∙ c.spaces_in-2.ensures)

@@ -5,10 +5,11 @@ use Prim.Native.Nat.{◌-◌, ◌<◌, ◌≤◌}
 use native.Mathlib.Nat.{le_of_eq}
 use native.Mathlib.Omega.{arith}
 use lib.ListN.{length}
+use Rattle.std.proofs.lemmas.Result.{err_from_is_err_and}
 use Rattle.trees.proofs.Levels.{no_level}
 use Rattle.walk.proofs.Roots.{no_byte}
 use Rattle.walk.proofs.LeftToWalk.{missing_lacks, walking_first}
-use Rattle.walk.proofs.Turns.{onward_ends, walking_last, walking_next, walking_lost}
+use Rattle.walk.proofs.Turns.{walking_last, walking_next, walking_lost}
 use Rattle.walk.proofs.+lacking.Goals as goal
 
 pub returns-then-levels-eq0-clause-by_index : goal.returns-then-levels-eq0-clause-by_index
@@ -18,33 +19,33 @@ returns-then-levels-eq0-clause-by_index t c =
 pub returns-then-x-eq0-clause-by_index : goal.returns-then-x-eq0-clause-by_index
 returns-then-x-eq0-clause-by_index t c =
     λ F M t' h.
-    rw (missing_lacks t' c.args.q c.wide.result c.kept_for-x.result h c.wide.ensures.0 (c.kept_for-x.ensures F M h.opened) c.if-x-eq0.true) refl
+    rw (missing_lacks t' c.args.q c.from.result c.kept_for-x.result h c.from.ensures (c.kept_for-x.ensures F M h.opened) c.if-x-eq0.true) refl
 
 pub loop-j-init : goal.loop-j-init
 loop-j-init t c = (
   λ F M t' h.
-      walking_first t' c.args.q c.wide.result c.kept_for-x.result h c.wide.ensures.0 (c.kept_for-x.ensures F M h.opened) c.if-x-eq0.false,
+      walking_first t' c.args.q c.from.result c.kept_for-x.result h c.from.ensures (c.kept_for-x.ensures F M h.opened) c.if-x-eq0.false,
   omega arith,
   omega arith,
 )
 
-pub returns-in_default-clause-by_index : goal.returns-in_default-clause-by_index
-returns-in_default-clause-by_index t c =
+pub returns-in_err-next-clause-by_index : goal.returns-in_err-next-clause-by_index
+returns-in_err-next-clause-by_index t c =
     λ F M t' h.
-    walking_lost h (c.args.levels - 1) c.args.q c.kept_for-x.result c.loop-j.j c.loop-j.next (c.loop-j.invariant.0 F M t' h)
+    let no = err_from_is_err_and c.from_residual.result c.from_residual.ensures.1 in
+    rw (no.1, no.2) (walking_lost h (c.args.levels - 1) c.args.q c.kept_for-x.result c.loop-j.j c.loop-j.next (c.loop-j.invariant.0 F M t' h)
     c.kids_in-kids.result c.kids_in-kids.ensures.by_index c.loop-j-test.true
-    c.child_in-state.result c.child_in-state.ensures.by_index c.lacking-below.result (c.lacking-below.ensures.by_index F M)
-    c.in_default.field-0 c.in_default.is
+    c.child_in-state.result c.child_in-state.ensures.by_index c.lacking.result (c.lacking.ensures.by_index F M)
+    c.in_err-next.field-0.0 c.in_err-next.was)
 
 pub loop-j-preserved : goal.loop-j-preserved
 loop-j-preserved t c =
-    let o : (c.loop-j.next < c.in-Ends.after) × (c.in-Ends.after ≤ length c.args.tree.now) =
-    onward_ends c.loop-j.next (length c.args.tree.now) c.lacking-below.result c.in-Ends.after c.in-Ends.is c.lacking-below.ensures.onward in (
+    let o : (c.loop-j.next < c.in_ok-next.next) × (c.in_ok-next.next ≤ length c.args.tree.now) = c.in_ok-next.ensures.onward in (
       λ F M t' h.
           walking_next h (c.args.levels - 1) c.args.q c.kept_for-x.result c.loop-j.j c.loop-j.next (c.loop-j.invariant.0 F M t' h)
           c.kids_in-kids.result c.kids_in-kids.ensures.by_index c.loop-j-test.true
-          c.child_in-state.result c.child_in-state.ensures.by_index c.lacking-below.result (c.lacking-below.ensures.by_index F M)
-          c.in-Ends.after c.in-Ends.is,
+          c.child_in-state.result c.child_in-state.ensures.by_index c.lacking.result (c.lacking.ensures.by_index F M)
+          c.in_ok-next.next c.in_ok-next.was,
       omega (arith, o, c.loop-j.invariant),
       o.1,
     )

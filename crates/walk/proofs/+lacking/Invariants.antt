@@ -14,9 +14,5 @@ invariant-loop-j l =
     × (l.at < l.next)
     × (l.next ≤ length l.tree)
 
-abbrev pub decreases-loop-j : goal.decreases-loop-j
-decreases-loop-j l =
-    l.kids - l.j
-
 abbrev pub decreases-lacking : goal.decreases-lacking
 decreases-lacking l = l.levels

@@ -2,13 +2,13 @@
 use Rattle.why_no_word.proofs.Calls.{shape_answers, lacking_answers}
 use Rattle.why_no_word.proofs.why.Goals as goal
 
-pub returns-in-Refused : goal.returns-in-Refused
-returns-in-Refused c =
-    λ M o n. shape_answers (record { opened = o; checked = c.check.ensures M o }) _ c.in-Refused.is
+pub returns-in-Err : goal.returns-in-Err
+returns-in-Err c =
+    λ M o n. shape_answers (record { opened = o; checked = c.check.ensures M o }) _ c.in-Err.is
 
-pub returns-in-Ends : goal.returns-in-Ends
-returns-in-Ends c =
+pub returns : goal.returns
+returns c =
     λ M o n.
     rw c.place_of.ensures
-    (lacking_answers (record { opened = o; checked = c.check.ensures M o }) _ c.in-Ends.is n
+    (lacking_answers (record { opened = o; checked = c.check.ensures M o }) _ c.in_default.is n
     c.start-start.result (c.start-start.ensures.meant_by _ M o) c.lacking-walk.result c.lacking-walk.ensures.by_index)

@@ -6,6 +6,7 @@ use lib.ListN.{length}
 use Rattle.word_writer.specs.WordWritten.{GoesOn}
 use Rattle.word_writer.proofs.Writing.{Called, stop_nothing, writing_first, writing_last, writing_more, called_long, called_letters}
 use Rattle.word_writer.proofs.+node.Goals as goal
+use Rattle.word_writer.proofs.+node.Goals.{then-left-eq0-via-then-left-eq0, then-left-eq0-via-else-left-eq0+then-not-goes_on}
 
 pub loop-left-init : goal.loop-left-init
 loop-left-init t c =
@@ -17,13 +18,11 @@ pub returns-then-left-eq0-clause-word_written : goal.returns-then-left-eq0-claus
 returns-then-left-eq0-clause-word_written t c =
     let put = c.put_word-end in
     let loop = c.loop-left.invariant in
-    writing_last loop.0 loop.2 put.new.room put.result put.ensures c.if-left-eq0.true
-
-pub returns-then-not-goes_on-clause-word_written : goal.returns-then-not-goes_on-clause-word_written
-returns-then-not-goes_on-clause-word_written t c =
-    let loop = c.loop-left.invariant in
-    λ M q u w d.
-    absurd (stop_nothing loop.0 loop.2 c.if-left-eq0.false (c.goes_on.ensures.if_false c.if-not-goes_on.true) M q u w d)
+    elim c.then-left-eq0.branch [
+      | then-left-eq0-via-then-left-eq0 w ↦ writing_last loop.0 loop.2 put.new.room put.result put.ensures w.if-left-eq0.true
+      | then-left-eq0-via-else-left-eq0+then-not-goes_on w ↦
+          λ M q u v d. absurd (stop_nothing loop.0 loop.2 w.if-left-eq0.false (w.goes_on.ensures.if_false w.if-not-goes_on.true) M q u v d)
+    ]
 
 pub loop-left-preserved : goal.loop-left-preserved
 loop-left-preserved t c =

@@ -15,34 +15,32 @@ returns-then-not-some_narrow c =
 
 pub loop-i-init : goal.loop-i-init
 loop-i-init c = (
-  omega arith,
-  c.rules-count.ensures.upper_bound,
-  λ M o. (c.rules-count.ensures.meant_by c.args.frames.now M o, ap (λ n. least (free_at M c.args.left.now) n 0) (omega arith)),
+  c.rules-i-end.ensures.upper_bound,
+  λ M o. (c.rules-i-end.ensures.meant_by c.args.table.now.frames.now M o, ap (λ n. least (free_at M c.args.left.now) n 0) (omega arith)),
 )
 
 pub returns-then-not-free_rule : goal.returns-then-not-free_rule
 returns-then-not-free_rule c =
     λ M o.
-    let v = c.loop-i.invariant.2 M o in
-    let test = row_test M c.args.left.now c.loop-i.i c.free_rule.result (omega (arith, v.0, c.loop-i-test.true)) (λ row e.
+    let v = c.loop-i.invariant.1 M o in
+    let test = row_test M c.args.left.now c.loop-i.i c.free_rule.result (omega (arith, v.0)) (λ row e.
     c.free_rule.ensures M row o e) in
     let whole = v.1 ∙ ap (λ k. least (free_at M c.args.left.now) k 0) v.0 in
-    least_here (free_at M c.args.left.now) c.rules-count.result c.loop-i.i whole c.loop-i-test.true test c.if-not-free_rule.true
+    least_here (free_at M c.args.left.now) c.rules-i-end.result c.loop-i.i whole (omega arith) test c.if-not-free_rule.true
 
 pub loop-i-preserved : goal.loop-i-preserved
 loop-i-preserved c = (
-  omega arith,
-  c.loop-i.invariant.1,
+  c.loop-i.invariant.0,
   λ M o.
-      let v = c.loop-i.invariant.2 M o in
-      let test = row_test M c.args.left.now c.loop-i.i c.free_rule.result (omega (arith, v.0, c.loop-i-test.true)) (λ row e.
+      let v = c.loop-i.invariant.1 M o in
+      let test = row_test M c.args.left.now c.loop-i.i c.free_rule.result (omega (arith, v.0)) (λ row e.
       c.free_rule.ensures M row o e) in
-      (v.0, least_on (free_at M c.args.left.now) c.rules-count.result c.loop-i.i v.1 c.loop-i-test.true test c.if-not-free_rule.false),
+      (v.0, least_on (free_at M c.args.left.now) c.rules-i-end.result c.loop-i.i v.1 (omega arith) test c.if-not-free_rule.false),
 )
 
 pub returns : goal.returns
 returns c =
     λ M o.
-    let v = c.loop-i.invariant.2 M o in
+    let v = c.loop-i.invariant.1 M o in
     let whole = v.1 ∙ ap (λ n. least (free_at M c.args.left.now) n 0) v.0 in
-    least_end (free_at M c.args.left.now) c.rules-count.result c.loop-i.i whole c.loop-i-test.false
+    least_end (free_at M c.args.left.now) c.rules-i-end.result c.loop-i.i whole (omega arith)

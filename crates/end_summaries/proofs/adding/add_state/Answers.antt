@@ -1,5 +1,6 @@
 -- `add_state` meets its contract.
 use native.Mathlib.Omega.{arith}
+use borrow.Author.Rules.{rules}
 use Rattle.rule_leaves.proofs.Numbered.{row_state_small}
 use Rattle.summary.proofs.Growing.{grown_none, grown_then, grown_most}
 use Rattle.end_summaries.proofs.Rounds.{state_none, several_tried, numbers_none, numbers_more}
@@ -11,19 +12,19 @@ returns-then-q-ge-STATES-clause-adds c =
 
 pub loop-i-init : goal.loop-i-init
 loop-i-init c = (
-  c.rules_of_full-rules.ensures.to_le_rows_most.0,
+  c.rules_of-rules.ensures.to_le_rows_most.0,
   omega arith,
   grown_none c.args.values.now,
-  λ M o. let w = c.rules_of_full-rules.ensures.meant_by c.args.frames.now M o in (w, numbers_none o.limited.made.rising w c.args.values.now),
+  λ M o. let w = c.rules_of-rules.ensures.meant_by c.args.table.now.frames.now M o in (w, numbers_none o.limited.made.rising w c.args.values.now),
 )
 
-pub returns-then-values-q-ge257-clause-adds : goal.returns-then-values-q-ge257-clause-adds
-returns-then-values-q-ge257-clause-adds c =
-    λ M o. several_tried o.limited.made.rising (c.loop-i.invariant.3 M o).1 (omega (arith, c.if-values-q-ge257.true))
+pub returns-then-eq-clause-adds : goal.returns-then-eq-clause-adds
+returns-then-eq-clause-adds c =
+    λ M o. several_tried o.limited.made.rising (c.loop-i.invariant.3 M o).1 (search rules)
 
 pub overflow_add-k : goal.overflow_add-k
 overflow_add-k c =
-    omega (arith, grown_most (grown_then c.loop-i.invariant.2 c.add_rule-k.ensures.grown) c.requires.1)
+    omega (arith, grown_most (grown_then c.loop-i.invariant.2 c.add_rule-k.ensures.grown) (omega arith))
 
 pub loop-i-preserved : goal.loop-i-preserved
 loop-i-preserved c = (

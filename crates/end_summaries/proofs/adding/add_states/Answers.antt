@@ -7,15 +7,14 @@ use Rattle.end_summaries.proofs.adding.add_states.Goals as goal
 
 pub overflow_add-k : goal.overflow_add-k
 overflow_add-k c =
-    omega (arith, grown_most (grown_then c.loop-i.invariant.0 c.add_state-k.ensures.grown) c.requires.1)
+    omega (arith, grown_most (grown_then c.loop-i.invariant.0 c.add_state-k.ensures.grown) (omega arith))
 
 pub loop-i-preserved : goal.loop-i-preserved
-loop-i-preserved c =
-    let read = c.wide-q.ensures.0 ∙ c.byte.ensures in (
-      grown_then c.loop-i.invariant.0 c.add_state-k.ensures.grown,
-      λ M o. states_more c.args.order.now c.loop-i.i c.args.n c.wide-q.result c.loop-i-test.true read (c.loop-i.invariant.1 M o)
-          c.add_state-k.ensures.grown (c.add_state-k.ensures.adds M o),
-    )
+loop-i-preserved c = (
+  grown_then c.loop-i.invariant.0 c.add_state-k.ensures.grown,
+  λ M o. states_more c.args.order.now c.loop-i.i c.args.n c.from.result c.loop-i-test.true (c.from.ensures ∙ c.byte.ensures) (c.loop-i.invariant.1 M o)
+      c.add_state-k.ensures.grown (c.add_state-k.ensures.adds M o),
+)
 
 pub returns-clause-adds : goal.returns-clause-adds
 returns-clause-adds c =

@@ -6,8 +6,5 @@ use Rattle.end_summaries.proofs.adding.add_states.Given as goal
 
 abbrev pub invariant-loop-i : goal.invariant-loop-i
 invariant-loop-i l =
-    Grown l.initial.values l.values l.k × Adds l.frames l.numbers (side_of l.side) (RulesOfListed l.order l.i l.n) l.initial.values l.values l.k
-
-abbrev pub decreases-loop-i : goal.decreases-loop-i
-decreases-loop-i l =
-    l.i
+    Grown l.initial.values l.values l.k × Adds l.table.frames.now l.table.numbers.now (side_of l.side) (RulesOfListed l.order l.i l.n)
+    l.initial.values l.values l.k

@@ -5,4 +5,4 @@ use Rattle.layout.proofs.counts.arity.Goals as goal
 
 pub returns-clause-by_index : goal.returns-clause-by_index
 returns-clause-by_index c =
-    λ I M o h. c.wide.ensures.0 ∙ c.byte.ensures ∙ arity o c.args.f h
+    λ I M o h. c.from.ensures ∙ c.byte.ensures ∙ arity o c.args.f h

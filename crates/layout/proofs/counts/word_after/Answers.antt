@@ -7,4 +7,4 @@ use Rattle.layout.proofs.counts.word_after.Goals as goal
 
 pub returns-clause-meant : goal.returns-clause-meant
 returns-clause-meant c =
-    λ M o. c.stretch.ensures.0 ∙ ap (λ (k : ℕ). word_at c.args.frames.now k) (c.place.ensures ∙ o.head.after) ∙ after_word o
+    λ M o. c.stretch.ensures.0 ∙ ap (λ (k : ℕ). word_at c.args.table.now.frames.now k) (c.place.ensures ∙ o.head.after) ∙ after_word o

@@ -1,16 +1,18 @@
 -- `rules_of_full` meets its contract: from the first rule of the state to that of the next.
-use Prim.Native.Nat.{◌<◌}
+use Prim.Native.Nat.{◌<◌, ◌≤◌}
 use native.Mathlib.Omega.{arith}
 use Rattle.rule_leaves.proofs.Ranges.{range, no_range}
 use Rattle.rule_leaves.proofs.full.rules_of_full.Goals as goal
+use Rattle.rule_leaves.proofs.full.rules_of_full.Goals.{then-q-ge-STATES-via-then-q-ge-STATES, then-q-ge-STATES-via-else-q-ge-STATES+then-numbers-q}
 
-pub returns-then-q-ge64-clause-meant_by : goal.returns-then-q-ge64-clause-meant_by
-returns-then-q-ge64-clause-meant_by c =
-    λ F M o. no_range M o.limited.made.rows c.args.q (omega (arith, o.limited.states, c.if-q-ge64.true))
-
-pub returns-then-numbers-q-clause-meant_by : goal.returns-then-numbers-q-clause-meant_by
-returns-then-numbers-q-clause-meant_by c =
-    λ F M o. no_range M o.limited.made.rows c.args.q (omega (arith, o.head.states, c.if-numbers-q.true))
+pub returns-then-q-ge-STATES-clause-meant_by : goal.returns-then-q-ge-STATES-clause-meant_by
+returns-then-q-ge-STATES-clause-meant_by c =
+    λ F M o.
+    let beyond : M.states ≤ c.args.q = elim c.then-q-ge-STATES.branch [
+      | then-q-ge-STATES-via-then-q-ge-STATES w ↦ omega (arith, o.limited.states, w.if-q-ge-STATES.true)
+      | then-q-ge-STATES-via-else-q-ge-STATES+then-numbers-q w ↦ omega (arith, o.head.states, w.if-numbers-q.true)
+    ] in
+    no_range M o.limited.made.rows c.args.q beyond
 
 pub returns-clause-meant_by : goal.returns-clause-meant_by
 returns-clause-meant_by c =

@@ -1,58 +1,65 @@
--- `kids_alike` meets its contract: the states are compared in turn, as many as there are children.
-use Rattle.words.proofs.Told.{told_yes, told_no, told_map}
-use Rattle.rule_leaves.proofs.Children.{all_none, first_of_all, all_one, last_of_all, all_two}
-use Rattle.rule_leaves.proofs.Children.{second_last_of_all, all_three, third_last_of_all, all_four}
+-- `kids_alike` meets its contract: the children of each number are compared by their states.
+use mathlib.Core.Path.{◌≡◌, sym, ap, ◌∙◌}
+use Prim.Native.Nat.{ℕ, zero, suc, ◌+◌, ◌-◌, ◌<◌}
+use native.Mathlib.Omega.{arith}
+use lib.ListN.{length, get_or}
+use Rattle.words.proofs.Told.{told_yes, told_no}
+use Rattle.machine.specs.Machine.{Rule}
+use Rattle.layout.specs.Leaves.{Encodes, state_no}
+use Rattle.layout.specs.Kids.{Alike}
+use Rattle.rule_leaves.proofs.Children.{one_more, kid_at, kids_of}
 use Rattle.rule_leaves.proofs.kids.kids_alike.Goals as goal
+use Rattle.rule_leaves.proofs.kids.kids_alike.Goals.{After-loop-n}
 
 pub returns-then-kids-eq0 : goal.returns-then-kids-eq0
 returns-then-kids-eq0 c =
-    λ i j r s h g e. told_yes (all_none c.args.map.now c.args.map2.now h g e c.if-kids-eq0.true)
+    λ i k a b h g e.
+    told_yes (kids_of (Alike c.args.map.now c.args.map2.now) a.rest b.rest e
+    (λ n l. absurd (omega (arith, l, c.kids_in-kids.ensures.by_index i a h, c.if-kids-eq0.true))))
 
-pub returns-then-not-alike : goal.returns-then-not-alike
-returns-then-not-alike c =
-    λ i j r s h g e.
-    told_no
-    (λ k. c.alike.ensures.if_false c.if-not-alike.true (first_of_all c.args.map.now c.args.map2.now h g e c.if-kids-eq0.false k))
+pub returns-then-map-first_in : goal.returns-then-map-first_in
+returns-then-map-first_in c =
+    λ i k a b h g e.
+    told_no (λ all. c.if-map-first_in.true
+    (ap (λ (s : ℕ). get_or c.args.map.now s 0) (c.first_in.ensures.by_index i a h)
+    ∙ kid_at (Alike c.args.map.now c.args.map2.now) a.rest b.rest all 0 (omega (arith, c.kids_in-kids.ensures.by_index i a h, c.if-kids-eq0.false))
+    ∙ ap (λ (s : ℕ). get_or c.args.map2.now s 0) (sym (c.first_in-2.ensures.by_index k b g))))
 
-pub returns-then-kids-eq1 : goal.returns-then-kids-eq1
-returns-then-kids-eq1 c =
-    let f = c.alike.ensures.if_true c.if-not-alike.false in
-    λ i j r s h g e. told_yes (all_one c.args.map.now c.args.map2.now h g e c.if-kids-eq1.true f)
+pub loop-n-init : goal.loop-n-init
+loop-n-init c =
+    λ i k a b h g e m l j s. absurd (omega (arith, l))
 
-pub returns-then-not-alike-2 : goal.returns-then-not-alike-2
-returns-then-not-alike-2 c =
-    λ i j r s h g e.
-    told_no
-    (λ k. c.alike-2.ensures.if_false c.if-not-alike-2.true
-    (last_of_all c.args.map.now c.args.map2.now h g e c.if-kids-eq0.false c.if-kids-eq1.false k))
+pub returns-then-map-later_in : goal.returns-then-map-later_in
+returns-then-map-later_in c =
+    λ i k a b h g e.
+    let j : ℕ = length a.rest - (2 + c.loop-n.n) in
+    let s : suc (suc j) + c.loop-n.n ≡ length a.rest = omega (arith, c.kids_in-kids.ensures.by_index i a h, c.loop-n-test.true) in
+    told_no (λ all. c.if-map-later_in.true
+    (ap (λ (q : ℕ). get_or c.args.map.now q 0) (c.later_in.ensures.by_index i a j h s)
+    ∙ kid_at (Alike c.args.map.now c.args.map2.now) a.rest b.rest all (suc j) (omega (arith, s))
+    ∙ ap (λ (q : ℕ). get_or c.args.map2.now q 0) (sym (c.later_in-in-loop-n.ensures.by_index k b j g (s ∙ e)))))
 
-pub returns-then-kids-eq2 : goal.returns-then-kids-eq2
-returns-then-kids-eq2 c =
-    let f = c.alike.ensures.if_true c.if-not-alike.false in
-    let l = c.alike-2.ensures.if_true c.if-not-alike-2.false in
-    λ i j r s h g e. told_yes (all_two c.args.map.now c.args.map2.now h g e c.if-kids-eq2.true f l)
+pub loop-n-preserved : goal.loop-n-preserved
+loop-n-preserved c =
+    λ i k a b h g e.
+    one_more (λ m. (j : ℕ) → suc (suc j) + m ≡ length a.rest
+    → Alike c.args.map.now c.args.map2.now (state_no a.rest (suc j)) (state_no b.rest (suc j))) c.loop-n.n
+    (c.loop-n.invariant i k a b h g e)
+    (λ j s. ap (λ (q : ℕ). get_or c.args.map.now q 0) (sym (c.later_in.ensures.by_index i a j h s))
+    ∙ c.if-map-later_in.false
+    ∙ ap (λ (q : ℕ). get_or c.args.map2.now q 0) (c.later_in-in-loop-n.ensures.by_index k b j g (s ∙ e)))
 
-pub returns-then-not-alike-3 : goal.returns-then-not-alike-3
-returns-then-not-alike-3 c =
-    λ i j r s h g e.
-    told_no
-    (λ k. c.alike-3.ensures.if_false c.if-not-alike-3.true
-    (second_last_of_all c.args.map.now c.args.map2.now h g e c.if-kids-eq0.false c.if-kids-eq1.false c.if-kids-eq2.false k))
-
-pub returns-then-kids-eq3 : goal.returns-then-kids-eq3
-returns-then-kids-eq3 c =
-    let f = c.alike.ensures.if_true c.if-not-alike.false in
-    let l = c.alike-2.ensures.if_true c.if-not-alike-2.false in
-    let s = c.alike-3.ensures.if_true c.if-not-alike-3.false in
-    λ i j r t h g e. told_yes (all_three c.args.map.now c.args.map2.now h g e c.if-kids-eq3.true f l s)
+-- The children of each number are alike behind the loop.
+each : (c : After-loop-n) → (i k : ℕ) (a b : Rule) → Encodes c.args.x i a → Encodes c.args.y k b → length a.rest ≡ length b.rest
+    → (n : ℕ) → n < length a.rest → Alike c.args.map.now c.args.map2.now (state_no a.rest n) (state_no b.rest n)
+each c i k a b h g e zero l =
+    ap (λ (s : ℕ). get_or c.args.map.now s 0) (sym (c.first_in.ensures.by_index i a h))
+    ∙ c.if-map-first_in.false
+    ∙ ap (λ (s : ℕ). get_or c.args.map2.now s 0) (c.first_in-2.ensures.by_index k b g)
+each c i k a b h g e (suc j) l =
+    c.loop-n.invariant i k a b h g e (length a.rest - (2 + j))
+    (omega (arith, l, c.kids_in-kids.ensures.by_index i a h, c.loop-n-test.false)) j (omega (arith, l))
 
 pub returns : goal.returns
 returns c =
-    let f = c.alike.ensures.if_true c.if-not-alike.false in
-    let l = c.alike-2.ensures.if_true c.if-not-alike-2.false in
-    let s = c.alike-3.ensures.if_true c.if-not-alike-3.false in
-    λ i j r t h g e.
-    told_map
-    (all_four c.args.map.now c.args.map2.now h g e c.if-kids-eq0.false c.if-kids-eq1.false c.if-kids-eq2.false c.if-kids-eq3.false f l s)
-    (third_last_of_all c.args.map.now c.args.map2.now h g e c.if-kids-eq0.false c.if-kids-eq1.false c.if-kids-eq2.false c.if-kids-eq3.false)
-    c.alike-4.ensures
+    λ i k a b h g e. told_yes (kids_of (Alike c.args.map.now c.args.map2.now) a.rest b.rest e (each (goal.at.returns c).After-loop-n i k a b h g e))

@@ -6,5 +6,5 @@ use Rattle.word_leaves.proofs.copy.next_spot_full.Goals as goal
 
 pub returns : goal.returns
 returns c =
-    let e : behind_at c.args.frames.now c.args.p + 1 ≡ c.args.p + 2 + c.wide.result = omega (arith, c.wide.ensures.0) in
+    let e : behind_at c.args.frames.now c.args.p + 1 ≡ c.args.p + 2 + c.from.result = omega (arith, c.from.ensures) in
     λ u x cs s. subst (λ (k : ℕ). Spot c.args.frames.now x.after cs k) e (spot_next c.args.frames.now u x cs c.args.p s)

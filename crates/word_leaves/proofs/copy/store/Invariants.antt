@@ -1,12 +1,8 @@
 -- `store` writes 16 bytes: after i bytes the room is the one at entry with the first i of them pasted over it.
-use Rattle.std.proofs.Common.{◌≡◌, ◌-◌, ◌≤◌, length}
+use Rattle.std.proofs.Common.{◌≡◌, length}
 use lib.Seq.{paste}
 use Rattle.word_leaves.proofs.copy.store.Given as goal
 
 abbrev pub invariant-loop-i : goal.invariant-loop-i
 invariant-loop-i l =
-    (l.i ≤ 16) × (l.room ≡ paste l.initial.room l.at l.piece l.i) × (length l.room ≡ length l.initial.room)
-
-abbrev pub decreases-loop-i : goal.decreases-loop-i
-decreases-loop-i l =
-    16 - l.i
+    (l.room ≡ paste l.initial.room l.at l.piece l.i) × (length l.room ≡ length l.initial.room)

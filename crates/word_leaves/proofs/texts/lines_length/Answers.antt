@@ -24,11 +24,11 @@ returns-clause-meant_by c =
     let last = index_row M.rows (c.args.to - 1) (omega arith) in
     omega (
       arith,
-      c.without.ensures,
+      c.saturating_sub.ensures,
       length_row_lines (slice c.args.from c.args.to M.rows),
       length-slice c.args.from c.args.to M.rows l,
-      frames_between M.rows (length (head_frames M)) c.args.from c.args.to c.place-first.result c.place.result c.text_length.result last.0 (omega arith)
+      frames_between M.rows (length (head_frames M)) c.args.from c.args.to c.spot_of-first.result c.spot_of.result c.text_length.result last.0 (omega arith)
           last.1
-          (c.place-first.ensures.by_index F M first.0 o first.1) (c.place.ensures.by_index F M last.0 o last.1)
+          (c.spot_of-first.ensures.place F M first.0 o first.1) (c.spot_of.ensures.place F M last.0 o last.1)
           (c.text_length.ensures.row_meant F M last.0 o last.1),
     )

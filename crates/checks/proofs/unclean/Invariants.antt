@@ -1,0 +1,11 @@
+-- `unclean` meets its contract. Invariant: no state before q is such a state.
+use mathlib.Core.Path.{◌≡◌}
+use mathlib.Core.Bool.{false}
+use Prim.Native.Nat.{ℕ, ◌<◌}
+use Rattle.end_laws.specs.Ends.{clean}
+use Rattle.summary.specs.Codes.{K}
+use Rattle.checks.proofs.unclean.Given as goal
+
+abbrev pub invariant-loop-q : goal.invariant-loop-q
+invariant-loop-q l =
+    (p : ℕ) → p < l.q → clean (K l.values p) ≡ false → ⊥

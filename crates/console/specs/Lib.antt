@@ -1,2 +1,0 @@
--- What reading answers.
-pub mod Input

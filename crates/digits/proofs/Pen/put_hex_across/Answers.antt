@@ -1,0 +1,18 @@
+-- `put_hex_across` meets its contract: the digits of the bytes passed.
+use mathlib.Core.Path.{refl, ◌∙◌}
+use native.Mathlib.Omega.{arith}
+use Rattle.text.specs.Lines.{hex_of}
+use Rattle.digits.proofs.Room.{wrote_none, wrote_then, wrote_as, hex_more}
+use Rattle.digits.proofs.Pen.put_hex_across.Goals as goal
+
+pub loop-b-init : goal.loop-b-init
+unfolding hex_of
+loop-b-init c = record { same_room = refl; wrote = wrote_none c.args.self.now.room.now c.args.self.now.at; place = omega arith }
+
+pub loop-b-preserved : goal.loop-b-preserved
+loop-b-preserved c =
+    record {
+      same_room = c.put_byte.ensures.same_room ∙ c.loop-b.invariant.same_room;
+      wrote = wrote_as (hex_more c.args.bytes.now c.loop-b.b-index c.loop-b-test.true) (wrote_then c.loop-b.invariant.wrote c.put_byte.ensures.wrote);
+      place = omega (arith, c.put_byte.ensures.end, c.loop-b.invariant.place);
+    }

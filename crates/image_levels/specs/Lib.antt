@@ -1,2 +1,0 @@
--- What is told of the levels of an image.
-pub mod LevelsTold

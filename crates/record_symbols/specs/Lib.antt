@@ -1,2 +1,0 @@
--- The last symbol of a list for records.
-pub mod LastTold

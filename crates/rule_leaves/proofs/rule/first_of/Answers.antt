@@ -1,8 +1,0 @@
--- `first_of` meets its contract: it is kept for each state, and one behind the last.
-use native.Mathlib.Omega.{arith}
-use Rattle.rule_leaves.proofs.Listing.{first_listed}
-use Rattle.rule_leaves.proofs.rule.first_of.Goals as goal
-
-pub returns-else-n-lt512-clause-meant_by : goal.returns-else-n-lt512-clause-meant_by
-returns-else-n-lt512-clause-meant_by c =
-    λ F M o h. let f = first_listed o c.args.q _ c.number-n.ensures h in omega (arith, f.0, f.1, c.if-n-lt512.false)

@@ -1,2 +1,0 @@
--- A text's refusal, as the word call hands it on.
-pub mod Refusal
