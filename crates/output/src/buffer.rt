@@ -1,5 +1,6 @@
 // A lent buffer in front of standard output: the bytes that wait in it, and writing them.
 ghost use Rattle.std.specs.Prelude.{◌≡◌, [], ◌∷◌, ◌+◌, ◌-◌, ◌<◌, ◌≤◌, true, false, length, take, set};
+ghost use Rattle.words.specs.Told.{Told};
 ghost use Rattle.output.specs.Queue.{stopped, TextPut, Flushed, Stored};
 ghost use Rattle.output.specs.Decimal.{decimal};
 
@@ -76,6 +77,7 @@ impl<'a> Out<'a> {
 
     // Writes the waiting bytes, and answers whether that and all writes before went well.
     pub fn flush(&mut self) -> bool
+        ensures told { Told (self.new.used ≡ 0) result }
         ensures kept { self.new.bytes ≡ self.old.bytes }
         ensures same_buffer { self.new.lent ≡ self.old.lent }
         ensures flushed { Flushed self.old.bytes self.old.used self.new.used }
