@@ -49,7 +49,7 @@ fn unclean(count: usize, values: &[Summary]) -> Option<usize>
 }
 
 // The initial rule, if its last word can be pushed to the left of its state.
-fn start_fault(table: &OpenTable<'_>, left: &[Summary]) -> Option<usize>
+fn start_fault(table: &OpenTable<'_, '_>, left: &[Summary]) -> Option<usize>
     ensures { Means table.now (λ M. place_of result
         ≡ least (λ p. not (stuck (K left.now M.start) M.after)) 1 0) }
 {
@@ -73,7 +73,7 @@ fn passed(number: u8, least: Option<usize>) -> Result<(), No>
 
 // The checks in number order: the first that some place does not pass, with the least such place.
 pub fn first_fault(
-    table: &OpenTable<'_>,
+    table: &OpenTable<'_, '_>,
     marks: &[u8],
     left: &[Summary],
     right: &[Summary],

@@ -12,7 +12,7 @@ ghost use Rattle.layout.specs.Leaves.{RowAt, Spot};
 ghost use Rattle.summary.specs.Codes.{decode, K, Firm};
 ghost use Rattle.checks.specs.Checks.{place_of};
 
-use layout::{OpenTable, rules};
+use layout::{NUMBERS, OpenTable, rules};
 use rule_leaves::laid_at;
 use summary::{Summary, kept};
 use word_leaves::{letter_at, letters_at, spot_past, state_past};
@@ -26,7 +26,7 @@ fn stuck_at(frames: &[u8], p: usize, n: usize, x: Summary) -> bool
 }
 
 // Whether no word of rule number i can be pushed to the left of the state before it.
-fn free_rule(table: &OpenTable<'_>, i: usize, left: &[Summary]) -> bool
+fn free_rule(table: &OpenTable<'_, '_>, i: usize, left: &[Summary]) -> bool
     requires { i < rows_most }
     ensures { (M : Table) (row : Row) → Opened table.now.frames.now table.now.numbers.now M → RowAt M i row
         → result ≡ free (K left.now) row.rule.rest }
@@ -53,14 +53,22 @@ fn some_narrow(left: &[Summary]) -> bool
 }
 
 // The least rule with a word that can be pushed to the left of the state before it.
-pub fn least_rule(table: &OpenTable<'_>, left: &[Summary]) -> Option<usize>
+pub fn least_rule(table: &OpenTable<'_, '_>, left: &[Summary]) -> Option<usize>
     ensures { Means table.now (λ M. place_of result
         ≡ least (λ i. free_row (K left.now) (get_elem? M.rows i)) (length M.rows) 0) }
 {
     if !some_narrow(left) {
         return None;
     }
-    for i in 0..rules(table.numbers) {
+    // Reading asks how many numbers there are: it is told once here, so that no read below asks again.
+    let Ok(numbers) = <&[u64; NUMBERS]>::try_from(table.numbers) else {
+        return None;
+    };
+    let table = &OpenTable {
+        frames: table.frames,
+        numbers,
+    };
+    for i in 0..rules(numbers) {
         if !free_rule(table, i, left) {
             return Some(i);
         }

@@ -19,7 +19,7 @@ use rule_leaves::Rules;
 // The first round compares words alone, since all states are in one class; later ones compare children alone.
 fn leads(
     first: bool,
-    table: &OpenTable<'_>,
+    table: &OpenTable<'_, '_>,
     rep: &[u8; STATES],
     next: &[u8; STATES],
     q: usize,
@@ -49,7 +49,7 @@ fn leads(
 // The number of its old class is the first state of that class, so none before that leads it.
 fn pick(
     first: bool,
-    table: &OpenTable<'_>,
+    table: &OpenTable<'_, '_>,
     rep: &[u8; STATES],
     next: &[u8; STATES],
     q: usize,
@@ -75,7 +75,7 @@ fn pick(
 // One round over the first n states.
 pub fn round(
     first: bool,
-    table: &OpenTable<'_>,
+    table: &OpenTable<'_, '_>,
     n: usize,
     rep: &[u8; STATES],
     next: &mut [u8; STATES],

@@ -12,7 +12,7 @@ ghost use Rattle.classes.specs.Classes.{TwinClasses, ClassNumbers};
 ghost use Rattle.classes.specs.Taking.{ClassPut, Adopted};
 
 use class_round::round;
-use layout::{OpenTable, STATES};
+use layout::{NUMBERS, OpenTable, STATES};
 
 // Stores v at q, and says how many entries that changed: 0 or 1.
 fn put(rep: &mut [u8], q: usize, v: u8) -> usize
@@ -37,7 +37,7 @@ fn adopt(n: usize, next: &[u8; STATES], rep: &mut [u8; STATES]) -> usize
 }
 
 // The rounds, until one parts no class.
-fn rounds(table: &OpenTable<'_>, n: usize, rep: &mut [u8; STATES])
+fn rounds(table: &OpenTable<'_, '_>, n: usize, rep: &mut [u8; STATES])
     requires { (n ≤ states_most) × ((q : ℕ) → get_or rep.old q 0 ≡ 0) }
     ensures class_numbers { ClassNumbers rep.new }
     ensures meant { Means table.now (λ M. n ≡ M.states
@@ -57,10 +57,18 @@ fn rounds(table: &OpenTable<'_>, n: usize, rep: &mut [u8; STATES])
 }
 
 // Puts the states of an opened table into classes: states have one number, the least of them, exactly when they are twins.
-pub fn part(table: &OpenTable<'_>, rep: &mut [u8; STATES])
+pub fn part(table: &OpenTable<'_, '_>, rep: &mut [u8; STATES])
     ensures class_numbers { ClassNumbers rep.new }
     ensures meant { Means table.now (λ M. TwinClasses M rep.new) }
 {
     *rep = [0u8; STATES];
-    rounds(table, layout::states(table.numbers), rep);
+    // Reading asks how many numbers there are: it is told once here, so that no read in the rounds asks again.
+    let Ok(numbers) = <&[u64; NUMBERS]>::try_from(table.numbers) else {
+        return;
+    };
+    let table = &OpenTable {
+        frames: table.frames,
+        numbers,
+    };
+    rounds(table, layout::states(numbers), rep);
 }

@@ -56,6 +56,13 @@ module _ {M : Table} (l : Limited M) (R R' : List ℕ) (long : length R ≡ text
         bytes = f.room ∙ ap (λ (x : Reply (List ℕ)). filled R x) fits;
       }
 
+  -- It has at most as many bytes as a text.
+  pub formed_short : (n : ℕ) → r ≡ given n → n ≤ text_most
+  formed_short n e =
+      let c = (formed_front n e).count in
+      let h = (form_within l f.is).text in
+      omega arith
+
 -- Forms whose texts are told to be the same or not.
 pub same_form : {M N : Table} {A B A' B' : List ℕ} {a b : Reply ℕ} {r : Bool} → Limited M → Limited N → (f : FormInto M A A' a) (g : FormInto N B B' b)
     → Told (write_table f.form ≡ write_table g.form) r → SameForm M N r
@@ -79,12 +86,12 @@ module _ {M N : Table} {same : Bool} (s : SameForm M N same) (p : Option ℕ) (g
       record { one = s.one; two = s.two; first = s.first; second = s.second; told = (refl, lists ∙ ap parting_of e) }
 
   -- Two forms, with one symbol list: they are different.
-  forms_differ : p ≡ None → same ≡ false → ComparedTables M N paper.different
+  pub forms_differ : p ≡ None → same ≡ false → ComparedTables M N paper.different
   forms_differ e d =
       record { one = s.one; two = s.two; first = s.first; second = s.second; told = (lists ∙ ap parting_of e, s.told.if_false d) }
 
 -- One form: the tables are the same.
-forms_same : {M N : Table} {same : Bool} → SameForm M N same → same ≡ true → ComparedTables M N paper.same
+pub forms_same : {M N : Table} {same : Bool} → SameForm M N same → same ≡ true → ComparedTables M N paper.same
 forms_same s e = record { one = s.one; two = s.two; first = s.first; second = s.second; told = s.told.if_true e }
 
 -- So whether there is one form tells whether the tables are the same, where the symbol lists part nowhere.

@@ -28,7 +28,7 @@ fn same_fronts(first: &[u8; layout::TEXT], n: usize, second: &[u8; layout::TEXT]
 }
 
 // Whether two opened earliest tables have one form: their texts are written and compared.
-fn same_forms(first: &OpenTable<'_>, second: &OpenTable<'_>) -> bool
+fn same_forms(first: &OpenTable<'_, '_>, second: &OpenTable<'_, '_>) -> bool
     ensures { (M N : Table) → Opened first.now.frames.now first.now.numbers.now M → Earliest M
         → Opened second.now.frames.now second.now.numbers.now N → Earliest N → SameForm M N result }
 {
@@ -44,7 +44,10 @@ fn same_forms(first: &OpenTable<'_>, second: &OpenTable<'_>) -> bool
 }
 
 // Whether two opened earliest tables are the same: 19 where their symbol lists part; else whether their forms agree.
-pub fn compare_opened(first: &OpenTable<'_>, second: &OpenTable<'_>) -> Result<bool, TableNo>
+pub fn compare_opened(
+    first: &OpenTable<'_, '_>,
+    second: &OpenTable<'_, '_>,
+) -> Result<bool, TableNo>
     ensures { (M N : Table) → Opened first.now.frames.now first.now.numbers.now M → Earliest M
         → Opened second.now.frames.now second.now.numbers.now N → Earliest N → ComparedTables M N (comparison_of result) }
 {

@@ -8,7 +8,7 @@ use native.Mathlib.Numerals.{add-one}
 use native.Mathlib.Omega.{arith}
 use lib.Dec.{ltb}
 use lib.ListN.{length, get_or, set, take, drop, length-append}
-use lib.Seq.{sets, sets-eq, length-sets, take-suc, take_all}
+use lib.Seq.{sets, sets-eq, set_out, length-sets, take-suc, take_all}
 use borrow.Author.Tests.{ltb-true, ltb-false}
 use Rattle.text.proofs.Digits.{hex_append}
 use Rattle.text.specs.Lines.{digit_of, hex_of}
@@ -30,6 +30,10 @@ wrote_none R at = record { bytes = refl; end = omega arith }
 -- The room stays as long.
 pub wrote_long : {R ws S : List ℕ} {at next : ℕ} → Wrote R at ws S next → length S ≡ length R
 wrote_long {R} {ws} {S} {at} {next} w = ap length w.bytes ∙ length-sets R at ws
+
+-- A byte that has no place is left out.
+pub wrote_outside : (R : List ℕ) (at b : ℕ) → length R ≤ at → Wrote R at (b ∷ []) R (at + 1)
+wrote_outside R at b h = record { bytes = sym (set_out R at b h); end = omega arith }
 
 -- Two digits are written at their places.
 pub wrote_digits : (R : List ℕ) (at h l b : ℕ) → h ≡ digit_of (b / 16) → l ≡ digit_of (b % 16)

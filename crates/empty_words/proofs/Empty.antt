@@ -20,6 +20,8 @@ use Rattle.end_laws.proofs.Values.{unknown_shown, alone_shown}
 use Rattle.layout.specs.Layout.{rest_letters, rule_letters}
 use Rattle.summary.specs.Codes.{decode, untold, only_empty, K}
 use Rattle.summary.specs.declared.Summary.{Summary}
+use Rattle.summary.proofs.Codes.{nothing_known}
+use Rattle.summary.proofs.Tests.{blank_alone}
 use Rattle.empty_words.specs.Blank.{Blanks, EmptyTold, AllBlank, BlankRule, BlankOf}
 
 -- A word without letters is empty.
@@ -38,6 +40,10 @@ unfolding rule_letters
 letters_parts r = refl
 
 module _ (M : Table) (xs : List Summary) where
+  -- Nothing is kept, so nothing is told.
+  pub zeros_blanks : ((q : ℕ) → get_or xs q untold ≡ untold) → Blanks M xs
+  zeros_blanks z = record { told = λ q. inl (z q) }
+
   -- ---- what is told is true
   module _ (B : Blanks M xs) where
     -- A state for which something is kept has the empty word.
@@ -110,14 +116,14 @@ module _ (M : Table) (xs : List Summary) where
     pub kept_told : Blanks M xs → EmptyTold M (K xs)
     kept_told B q h =
         let e = (kept_held B q (state_kept h.0 q [] h.1 refl)).0 in
-        ap (λ (x : Summary). x.empty) e
+        ap (λ (x : Summary). (decode x).empty) e
 
 -- What is told of the empty word is shown by it.
 pub blanks_witnessed : (M : Table) (side : Side) (xs : List Summary) → Blanks M xs → Witnessed M side (K xs)
 blanks_witnessed M side xs B q = ⊎_elim nothing_kept kept (B.told q)
   where
     nothing_kept : get_or xs q untold ≡ untold → Shown (Ending side (L M q)) (K xs q)
-    nothing_kept e = subst (Shown (Ending side (L M q))) (sym (ap decode e)) (unknown_shown (Ending side (L M q)))
+    nothing_kept e = subst (Shown (Ending side (L M q))) (sym (ap decode e ∙ nothing_known)) (unknown_shown (Ending side (L M q)))
 
     kept : (get_or xs q untold ≡ only_empty) × Holds (L M q) [] → Shown (Ending side (L M q)) (K xs q)
-    kept h = subst (Shown (Ending side (L M q))) (sym (ap decode h.0)) (alone_shown (Ending side (L M q)) none ([], h.1, empty_end side))
+    kept h = subst (Shown (Ending side (L M q))) (sym (ap decode h.0 ∙ blank_alone)) (alone_shown (Ending side (L M q)) none ([], h.1, empty_end side))

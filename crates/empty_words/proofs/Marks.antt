@@ -14,16 +14,19 @@ use Rattle.layout.specs.Layout.{Opened}
 use Rattle.summary.specs.Codes.{decode, untold, only_empty, K}
 use Rattle.summary.specs.declared.Summary.{Summary}
 use Rattle.summary.specs.Grown.{Grown}
+use Rattle.summary.proofs.Codes.{nothing_known}
+use Rattle.summary.proofs.Tests.{blank_alone}
 use Rattle.summary.proofs.Growing.{grown_one}
 use Rattle.empty_words.specs.Blank.{Blanks, EmptyTold, BlankOf, BlanksMarked, ListedBetween, AllListed}
 use Rattle.empty_words.proofs.Empty.{rule_held, blanks_set, kept_told}
 
 -- The empty word in place of nothing is one more that is known.
 pub grown_blank : (xs : List Summary) (q : ℕ) → q < length xs → get_or xs q untold ≡ untold → Grown xs (set xs q only_empty) 1
-grown_blank xs q l z = (grown_one xs q only_empty only_empty 0 1 l (sym (ap (λ x. join x (decode only_empty)) here)) refl (sym (ap rank here))).1
+grown_blank xs q l z =
+    (grown_one xs q only_empty only_empty 0 1 l (sym (ap (λ x. join x (decode only_empty)) here)) (sym (ap rank blank_alone)) (sym (ap rank here))).1
   where
     here : K xs q ≡ unknown
-    here = ap decode z
+    here = ap decode z ∙ nothing_known
 
 module _ {M : Table} where
   -- Nothing was done, and nothing was to be done.

@@ -11,7 +11,7 @@ ghost use Rattle.summary.specs.Codes.{K, untold};
 ghost use Rattle.summary.specs.Grown.{Grown};
 ghost use Rattle.empty_words.specs.Blank.{Blanks, EmptyTold, AllBlank, BlankRule, BlankOf, Marks, ListedBetween, AllListed};
 
-use layout::{STATES, byte};
+use layout::{NUMBERS, STATES, byte};
 use rule_leaves::{child_in, kept_of, kids_in, letters_in, rules_of};
 use summary::{EMPTY, Summary, UNTOLD};
 
@@ -82,6 +82,10 @@ pub fn blanks(numbers: &[u64], order: &[u8], n: usize, values: &mut [Summary; ST
     ensures meant_by { MeantBy numbers.now (λ M. Blanks M values.new) }
     ensures meant_by_2 { MeantBy numbers.now (λ M. AllListed M order.now n → EmptyTold M (K values.new)) }
 {
+    // Reading asks how many numbers there are: it is told once here, so that no read below asks again.
+    let Ok(numbers) = <&[u64; NUMBERS]>::try_from(numbers) else {
+        return;
+    };
     // How many passes there are shows only when one finds nothing, so no range has their end.
     loop {
         let k = blank_states(numbers, order, n, values);

@@ -9,14 +9,13 @@ use native.Mathlib.Omega.{arith}
 use lib.ListN.{get_or}
 use Rattle.machine.specs.Machine.{Row, Table, Rising}
 use Rattle.machine.proofs.Find.{find_row, index_row}
-use Rattle.end_laws.specs.Ends.{Side, at}
+use Rattle.end_laws.specs.Ends.{Side, several, at}
 use Rattle.end_laws.specs.Meaning.{Witnessed}
 use Rattle.end_laws.specs.Companion.{visit}
 use Rattle.end_laws.proofs.Known.{visit_witnessed}
 use Rattle.layout.specs.Leaves.{RowAt, RulesOf}
-use Rattle.summary.specs.Codes.{letters_of, untold, K, summaries}
+use Rattle.summary.specs.Codes.{K, summaries}
 use Rattle.summary.specs.declared.Summary.{Summary}
-use Rattle.summary.specs.declared.Letters.TheVariants.{Several}
 use Rattle.summary.specs.Grown.{Grown}
 use Rattle.empty_words.specs.Blank.{EmptyTold}
 use Rattle.end_summaries.specs.Steps.{Tried, RulesBetween, OneState, RulesOfListed}
@@ -91,15 +90,14 @@ module _ {M : Table} {side : Side} where
   state_none xs q h = record { keeps = λ W. W; tells = λ T. T; rests = λ R e i row there a. absurd (omega (arith, h i row there, a)) }
 
   -- A state that has several letters now: all its rules are tried.
-  pub several_tried : {tried : ℕ → Row → Type 0} {xs ys : List Summary} {k q : ℕ} → Rising M.rows → Tried M side tried xs ys k → (get_or ys q untold).letters ≡
-      Several
+  pub several_tried : {tried : ℕ → Row → Type 0} {xs ys : List Summary} {k q : ℕ} → Rising M.rows → Tried M side tried xs ys k → (K ys q).letters ≡ several
       → Tried M side (OneState q) xs ys k
   several_tried {ys = ys} {q = q} rising t h =
       record {
         keeps = t.keeps;
         tells = t.tells;
         rests = λ R z i row there a.
-            let many = ap (λ m. (K ys m).letters) a ∙ ap letters_of h in
+            let many = ap (λ m. (K ys m).letters) a ∙ h in
             several_rests M side ys (t.keeps R.0, t.tells R.1) row (find_row M.rows rising i row there) many;
       }
 

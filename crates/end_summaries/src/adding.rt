@@ -16,7 +16,7 @@ use summary::{Letters, Side, Summary};
 
 // Joins the summary of rule number i, which is one of state q, into that of q, and says how much that added.
 fn add_rule(
-    table: &OpenTable<'_>,
+    table: &OpenTable<'_, '_>,
     i: usize,
     q: usize,
     side: Side,
@@ -38,7 +38,12 @@ fn add_rule(
 
 // Adds the rules of state q, until it has several letters: where the empty word is told already, nothing more can be added.
 // They are taken from the last on, since symbols without children mostly stand last, and their words are known at once.
-fn add_state(table: &OpenTable<'_>, q: usize, side: Side, values: &mut [Summary; STATES]) -> usize
+fn add_state(
+    table: &OpenTable<'_, '_>,
+    q: usize,
+    side: Side,
+    values: &mut [Summary; STATES],
+) -> usize
     ensures grown { Grown values.old values.new result }
     ensures adds { Adds table.now.frames.now table.now.numbers.now (side_of side) (OneState q) values.old values.new result }
 {
@@ -48,7 +53,7 @@ fn add_state(table: &OpenTable<'_>, q: usize, side: Side, values: &mut [Summary;
     let rules = rules_of(table.numbers, q);
     let mut k = 0;
     for i in (rules.from..rules.to).rev() {
-        if values[q].letters == Letters::Several {
+        if values[q].letters() == Letters::Several {
             return k;
         }
         k += add_rule(table, i, q, side, values);
@@ -59,7 +64,7 @@ fn add_state(table: &OpenTable<'_>, q: usize, side: Side, values: &mut [Summary;
 // Adds the rules of the first n states of the order, from the last state on.
 // Nothing is asked of n, which may be more than order has, so it is no slice.
 pub fn add_states(
-    table: &OpenTable<'_>,
+    table: &OpenTable<'_, '_>,
     order: &[u8],
     n: usize,
     side: Side,

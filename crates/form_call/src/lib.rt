@@ -11,7 +11,7 @@ use words::No;
 
 // The form of an opened earliest table, written to the front of the room: its length, or 12 with the
 // length needed where the room is too short.
-pub fn form_opened(table: &OpenTable<'_>, room: &mut [u8]) -> Result<usize, No>
+pub fn form_opened(table: &OpenTable<'_, '_>, room: &mut [u8]) -> Result<usize, No>
     ensures { Means table.now (λ M. Earliest M
         → FormInto M room.old room.new result) }
 {

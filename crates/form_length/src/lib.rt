@@ -27,7 +27,7 @@ fn states_length(numbers: &[u64], order: &[u8], n: usize) -> usize
 
 // The length of the form's text, where the first n states of `order` are the states by first visit.
 // Nothing is asked of n, which may be more than `order` has, so it is no slice of that length.
-pub fn length(table: &OpenTable<'_>, order: &[u8], n: usize) -> usize
+pub fn length(table: &OpenTable<'_, '_>, order: &[u8], n: usize) -> usize
     ensures { FormLong table.now.frames.now table.now.numbers.now order.now n result }
 {
     let before = word_before(table);

@@ -1,9 +1,9 @@
 -- The numbers that the marks of the classes tell, and how many there are.
-use mathlib.Core.Path.{◌≡◌, ap, ◌∙◌}
+use mathlib.Core.Path.{◌≡◌, refl, ap, ◌∙◌}
 use mathlib.Core.List.{List}
-use Prim.Native.Nat.{ℕ, ◌-◌, ◌<◌, ◌≤◌}
+use Prim.Native.Nat.{ℕ, zero, suc, ◌-◌, ◌<◌, ◌≤◌}
 use native.Mathlib.Omega.{arith}
-use lib.ListN.{length, get_or, take, length-take}
+use lib.ListN.{length, get_or, take, replicate, length-take}
 use Rattle.machine.specs.Machine.{Table}
 use Rattle.machine.specs.Form.{Test, Decides, order}
 use Rattle.form_laws.proofs.Visit.{same_self}
@@ -23,6 +23,12 @@ numbered_by_marks {rep} {O} {P} {K} {N} {n} M l e h =
       listed = e ∙ l.listed;
       numbers = λ q b k. omega (arith, h q b, l.marks q, mark_known (by_rep rep) (order (by_rep rep) M) q k);
     }
+
+-- A list of zeros has no other entry.
+pub zeros : (n i : ℕ) → get_or {A = ℕ} (replicate n 0) i 0 ≡ 0
+zeros zero i = refl
+zeros (suc n) zero = refl
+zeros (suc n) (suc i) = zeros n i
 
 module _ {same : Test} {M : Table} {O N : List ℕ} {n : ℕ} (h : NumberedByVisit same M O N n) where
   -- The order has its place.

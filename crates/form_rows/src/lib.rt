@@ -43,7 +43,7 @@ fn put_row(pen: &mut Pen, text: &[u8], n: u8, f: u8, names: &[u8])
 }
 
 // Writes the line of rule number i, under state number n.
-fn put_rule(pen: &mut Pen, table: &OpenTable<'_>, i: usize, n: u8, names: &[u8])
+fn put_rule(pen: &mut Pen, table: &OpenTable<'_, '_>, i: usize, n: u8, names: &[u8])
     requires { (i < rows_most) × (pen.old.at + 2000 < 1000000000) }
     ensures same_room { pen.new.room.ghost_name ≡ pen.old.room.ghost_name }
     ensures upper_bound { pen.new.at ≤ pen.old.at + 547 }
@@ -55,7 +55,7 @@ fn put_rule(pen: &mut Pen, table: &OpenTable<'_>, i: usize, n: u8, names: &[u8])
 }
 
 // Writes the lines of state q, under number n.
-fn put_rules(pen: &mut Pen, table: &OpenTable<'_>, q: usize, n: u8, names: &[u8])
+fn put_rules(pen: &mut Pen, table: &OpenTable<'_, '_>, q: usize, n: u8, names: &[u8])
     requires { pen.old.at + 400000 < 1000000000 }
     ensures same_room { pen.new.room.ghost_name ≡ pen.old.room.ghost_name }
     ensures upper_bound { pen.new.at ≤ pen.old.at + 300000 }
@@ -70,7 +70,7 @@ fn put_rules(pen: &mut Pen, table: &OpenTable<'_>, q: usize, n: u8, names: &[u8]
 
 // Writes the lines of the first n states of `order`, each under its place there.
 // Nothing is asked of the length of `order`, so n stands beside it.
-pub fn put_states(pen: &mut Pen, table: &OpenTable<'_>, order: &[u8], n: usize, names: &[u8])
+pub fn put_states(pen: &mut Pen, table: &OpenTable<'_, '_>, order: &[u8], n: usize, names: &[u8])
     requires { (n ≤ states_most) × (pen.old.at + 20000000 < 1000000000) }
     ensures same_room { pen.new.room.ghost_name ≡ pen.old.room.ghost_name }
     ensures upper_bound { pen.new.at ≤ pen.old.at + 19200000 }

@@ -14,7 +14,13 @@ mod lines;
 
 // Writes the form's text, where the first n states of `order` are the states by first visit, and `names` has the number of each state.
 // Nothing is asked of the length of `order`, so n stands beside it.
-pub fn write(table: &OpenTable<'_>, order: &[u8], n: usize, names: &[u8], room: &mut [u8]) -> usize
+pub fn write(
+    table: &OpenTable<'_, '_>,
+    order: &[u8],
+    n: usize,
+    names: &[u8],
+    room: &mut [u8],
+) -> usize
     ensures { FormTextWritten table.now.frames.now table.now.numbers.now order.now names.now n
         room.old room.new result }
 {

@@ -6,7 +6,7 @@ use digits::{Pen, narrow};
 use layout::{OpenTable, arity, symbols, word_after, word_before};
 
 // Writes the lines of the symbols.
-pub fn put_symbols(pen: &mut Pen, table: &OpenTable<'_>)
+pub fn put_symbols(pen: &mut Pen, table: &OpenTable<'_, '_>)
     requires { pen.old.at + 1000 < 1000000000 }
     ensures same_room { pen.new.room.ghost_name ≡ pen.old.room.ghost_name }
     ensures upper_bound { pen.new.at ≤ pen.old.at + 400 }
@@ -20,7 +20,7 @@ pub fn put_symbols(pen: &mut Pen, table: &OpenTable<'_>)
 }
 
 // Writes the line of the initial rule: so many states, its words, and between them the initial state, which has number 0.
-pub fn put_initial(pen: &mut Pen, table: &OpenTable<'_>, states: usize)
+pub fn put_initial(pen: &mut Pen, table: &OpenTable<'_, '_>, states: usize)
     requires { (states < 256) × (pen.old.at + 2000 < 1000000000) }
     ensures same_room { pen.new.room.ghost_name ≡ pen.old.room.ghost_name }
     ensures upper_bound { pen.new.at ≤ pen.old.at + 1100 }

@@ -12,7 +12,7 @@ use lib.ListN.{length, take, drop, get_or, length-append, length-take, length-dr
 use lib.Seq.{take_all, take-suc, take-append-le, take-suc-set}
 use Rattle.std.specs.Prelude.{Some, None}
 use Rattle.words.specs.Told.{Told}
-use Rattle.words.proofs.Told.{told_no}
+use Rattle.words.proofs.Told.{told_yes, told_no}
 use Rattle.text.specs.Lines.{digit, joined, bytes_of, hex_of}
 use Rattle.text.specs.Writing.{AtMost}
 use Rattle.text.proofs.Digits.{digit_digit_of, bytes_hex, bytes_small}
@@ -149,6 +149,15 @@ module _ {cs T : List ℕ} {l : SoFar} where
       go (whole ds f g k) bs i = e f
       go (waits front ds x d f j g m n k) bs i = let z : ◌≡◌ {A = ℕ} 0 1 = cc (ap bytes_of g, bytes_odd front ds x n) in omega arith
       go (strange b n) bs i = let z : ◌≡◌ {A = ℕ} 0 1 = cc (append-nil cs, n []) in omega arith
+
+  -- One that ends so is whole bytes.
+  pub told_whole : l.end ≡ end.Whole → LineHeld cs T l → Told (WholeBytes cs T l.bytes) true
+  told_whole e h = go h.state
+    where
+      go : State cs T l → Told (WholeBytes cs T l.bytes) true
+      go (whole bs f g k) = told_yes (bs, g, k)
+      go (waits front bs x d f j g m n k) = absurd (let z : ◌≡◌ {A = ℕ} 0 1 = cc (e, f) in omega arith)
+      go (strange b n) = absurd (let z : ◌≡◌ {A = ℕ} 0 1 = cc (e, b) in omega arith)
 
   module _ (c : ℕ) where
     -- Another character comes, and the line says so.

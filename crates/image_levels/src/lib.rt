@@ -1,7 +1,7 @@
 // The levels of a record's image, counted along its stream: the first position below 64 levels, which is 10's place.
 #![tactic(auto)]
 
-ghost use Rattle.std.specs.Prelude.{◌≡◌, List, map, ℕ, ◌+◌, ◌-◌, ◌<◌, ◌≤◌, length, Err};
+ghost use Rattle.std.specs.Prelude.{◌≡◌, List, map, ℕ, ◌+◌, ◌-◌, ◌<◌, ◌≤◌, length, Err, IfErr};
 ghost use Rattle.words.specs.Reply.{no_at, mapped};
 ghost use Rattle.trees.specs.Preorder.{preorder};
 ghost use Rattle.trees.specs.Shape.{read_tree, tree_most, depth_most};
@@ -35,7 +35,8 @@ fn top_after(byte: u8, leaf: u8, top: usize) -> usize
 // Whether the image of a record has at most 64 levels, or 10 at its first position that is deeper. These are the record's bytes with
 // `leaf` in place of ff; so they may be the image's own too, all but the last, where `leaf` is the last symbol.
 pub fn levels(bytes: &[u8], leaf: u8) -> Result<(), No>
-    ensures { (ar : List ℕ) (a : ℕ) (r : Element) → RecordSymbols ar a → Labels a r → a ≤ leaf
+    ensures only_ten { IfErr result (λ no. no.number ≡ 10) }
+    ensures told { (ar : List ℕ) (a : ℕ) (r : Element) → RecordSymbols ar a → Labels a r → a ≤ leaf
         → bytes.now ≡ map (spell leaf) (bytes_of r) → length bytes.now < tree_most
         → result ≡ mapped (λ t. tt) (read_tree ar (preorder (image a r))) }
 {

@@ -9,6 +9,10 @@ use Rattle.machine.specs.Machine.{Child, Row, Table, Every, RowFits}
 use Rattle.text.specs.Writing.{text_of, children_text, row_frame, initial_frame, Limited}
 use Rattle.layout.specs.Layout.{symbol_frames, row_frames, head_frames, frames_of, Opened}
 
+-- The same numbers, read anew, mean the same table.
+pub read_by : {F I J : List ℕ} {M : Table} → I ≡ J → Opened F J M → Opened F I M
+read_by {F} {M = M} e o = subst (λ K. Opened F K M) (sym e) o
+
 -- Equal lists have equal first elements.
 cons_first : {x y : ℕ} {xs ys : List ℕ} → ◌≡◌ {A = List ℕ} (x ∷ xs) (y ∷ ys) → x ≡ y
 cons_first e = cc

@@ -55,7 +55,7 @@ pub fn rules(numbers: &[u64]) -> usize
 }
 
 // The word before the initial state.
-pub fn word_before<'a>(table: &OpenTable<'a>) -> &'a [u8]
+pub fn word_before<'f>(table: &OpenTable<'f, '_>) -> &'f [u8]
     ensures result_len_bound { length result.now < 256 }
     ensures meant { Means table.now (λ M. result.now ≡ M.before) }
 {
@@ -63,7 +63,7 @@ pub fn word_before<'a>(table: &OpenTable<'a>) -> &'a [u8]
 }
 
 // The word after it.
-pub fn word_after<'a>(table: &OpenTable<'a>) -> &'a [u8]
+pub fn word_after<'f>(table: &OpenTable<'f, '_>) -> &'f [u8]
     ensures result_len_bound { length result.now < 256 }
     ensures meant { Means table.now (λ M. result.now ≡ M.after) }
 {

@@ -12,9 +12,9 @@ mod counts;
 
 // An opened table as it is lent: its bytes, which are its frames and what is behind them, and its numbers.
 #[derive(Clone, Copy)]
-pub struct OpenTable<'a> {
-    pub frames: &'a [u8],
-    pub numbers: &'a [u64],
+pub struct OpenTable<'f, 'n> {
+    pub frames: &'f [u8],
+    pub numbers: &'n [u64],
 }
 
 // How many bytes and how many numbers a caller lends for an opened table. The bytes behind the

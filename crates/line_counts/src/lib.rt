@@ -3,7 +3,7 @@
 #![tactic(auto)]
 
 ghost use Rattle.std.specs.Prelude.{◌≡◌, ◌+◌, set, get_or};
-ghost use Rattle.output.specs.Queue.{TextPut};
+ghost use Rattle.output.specs.Queue.{seen, TextPut};
 ghost use Rattle.line_counts.specs.Counts.{capped, sum};
 ghost use Rattle.line_counts.specs.Closing.{refused_text, refused_texts, strange_text, counts_line};
 
@@ -31,7 +31,7 @@ pub fn total(counts: &[u64]) -> u64
 
 // Puts how many lines were refused by a number, where there are any.
 fn put_refused(number: u64, count: u64, out: &mut Out)
-    ensures { TextPut (refused_text number count) out.old out.new }
+    ensures { TextPut (refused_text number count) (seen out.old) (seen out.new) }
 {
     if count == 0 {
         return;
@@ -44,7 +44,7 @@ fn put_refused(number: u64, count: u64, out: &mut Out)
 
 // Puts how many lines were refused by each number from 1 on.
 fn put_all_refused(counts: &[u64], out: &mut Out)
-    ensures { TextPut (refused_texts counts.now) out.old out.new }
+    ensures { TextPut (refused_texts counts.now) (seen out.old) (seen out.new) }
 {
     for (i, count) in counts.iter().enumerate() {
         put_refused(i as u64 + 1, *count, out);
@@ -53,7 +53,7 @@ fn put_all_refused(counts: &[u64], out: &mut Out)
 
 // Puts how many lines were no hexadecimal, where there are any.
 fn put_strange(count: u64, out: &mut Out)
-    ensures { TextPut (strange_text count) out.old out.new }
+    ensures { TextPut (strange_text count) (seen out.old) (seen out.new) }
 {
     if count == 0 {
         return;
@@ -72,7 +72,7 @@ pub fn put_counts(
     strange: u64,
     out: &mut Out,
 )
-    ensures { TextPut (counts_line lines name.now answered refused.now strange) out.old out.new }
+    ensures { TextPut (counts_line lines name.now answered refused.now strange) (seen out.old) (seen out.new) }
 {
     out.put_number(lines);
     out.put_all(b" lines: ");

@@ -58,7 +58,7 @@ fn look_on(told: Result<usize, No>, place: usize, bytes: &[u8], last: u8) -> Res
 }
 
 // What is held no more, with some bytes more.
-fn past_with(past: Past, bytes: &[u8], table: &OpenTable<'_>) -> Past
+fn past_with(past: Past, bytes: &[u8], table: &OpenTable<'_, '_>) -> Past
     ensures { (gone : List ℕ) → length gone + length bytes.now < count_most
         → PastTold table.now.frames.now table.now.numbers.now gone past
         → PastTold table.now.frames.now table.now.numbers.now (gone ++ bytes.now) result }
@@ -74,7 +74,7 @@ fn past_with(past: Past, bytes: &[u8], table: &OpenTable<'_>) -> Past
 }
 
 // The line with places for more bytes: where those that are held are more than a tree may have, they are looked through.
-pub fn with_places(line: LongLine, tree: &[u8], table: &OpenTable<'_>) -> LongLine
+pub fn with_places(line: LongLine, tree: &[u8], table: &OpenTable<'_, '_>) -> LongLine
     ensures { (cs : List ℕ) → length cs < count_most
         → LongHeld table.now.frames.now table.now.numbers.now (2 * length tree.now) cs tree.now line
         → LongHeld table.now.frames.now table.now.numbers.now (2 * tree_most + 2) cs tree.now result }
@@ -156,7 +156,7 @@ fn refusal_under(past: Past, bytes: &[u8], last: u8) -> No
 }
 
 // The refusal of a line as a record's stream under an opened table, where it is long: 20, then the stream's own, then 6.
-pub fn refusal(line: LongLine, tree: &[u8], table: &OpenTable<'_>) -> No
+pub fn refusal(line: LongLine, tree: &[u8], table: &OpenTable<'_, '_>) -> No
     ensures { (cs bs : List ℕ) → length cs < count_most → bytes_of cs ≡ some bs → 0 < line.past.bytes
         → LongHeld table.now.frames.now table.now.numbers.now (2 * length tree.now) cs tree.now line
         → Means table.now (λ M. (spelled M.arities bs then read_tree M.arities) ≡ Reply·refusal result) }

@@ -7,7 +7,7 @@ use native.Mathlib.Omega.{arith}
 use native.Mathlib.Numerals.{add-one}
 use lib.ListN.{length, take, get_or, set, length-set, length-append}
 use lib.Seq.{take-suc, take-suc-set, take_all}
-use Rattle.output.specs.Queue.{stopped, Queued, Flushed, Waiting, TextPut, Stored}
+use Rattle.output.specs.Queue.{stopped, Queued, Flushed, Waiting, SameBuffer, TextPut, Stored}
 
 -- Nothing put changes nothing.
 pub queued_none : (O : List ℕ) (u : ℕ) → Queued [] O u O u
@@ -36,6 +36,15 @@ queued_then {s} {t} {O} {O₁} {O₂} {u} {m} {r} a b =
     rejoined : (p q x y z s t : List ℕ) → p ++ y ≡ z ++ s → q ++ x ≡ y ++ t → p ++ q ++ x ≡ z ++ (s ++ t)
     rejoined p q x y z s t e f =
         append_assoc p q x ∙ ap (λ (l : List ℕ). p ++ l) f ∙ sym (append_assoc p y t) ∙ ap (λ (l : List ℕ). l ++ t) e ∙ append_assoc z s t
+
+-- A byte that has a place.
+pub queued_byte : (c : ℕ) (O : List ℕ) (u : ℕ) → u < length O → length O ≤ stopped → Queued (c ∷ []) O u (set O u c) (u + 1)
+queued_byte c O u h k =
+    record {
+      kept = length-set O u c;
+      fits = λ i. refl;
+      row = λ i. (omega arith, ([], rw (add-one, take-suc-set O u c)));
+    }
 
 -- A byte that had no place until the waiting ones were written.
 pub queued_byte_anew : (c : ℕ) (O : List ℕ) (u at : ℕ) → length O ≤ u → at < length O → at < stopped → Flushed O u at
@@ -81,6 +90,10 @@ put_as e a = record { queued = queued_as e a.queued; same_buffer = a.same_buffer
 -- Two texts, one after the other, in the same lent buffer.
 pub put_then : {s t : List ℕ} {w v x : Waiting} → TextPut s w v → TextPut t v x → TextPut (s ++ t) w x
 put_then a b = record { queued = queued_then a.queued b.queued; same_buffer = b.same_buffer ∙ a.same_buffer }
+
+-- Whatever text was put, the buffer is the same.
+pub put_same : {t : List ℕ} {w w' : Waiting} → TextPut t w w' → SameBuffer w w'
+put_same a = (a.same_buffer, a.queued.kept)
 
 -- The next byte behind the first i.
 pub put_next : (bytes : List ℕ) (i : ℕ) {w v x : Waiting} → TextPut (take i bytes) w v → TextPut (get_or bytes i 0 ∷ []) v x → i < length bytes

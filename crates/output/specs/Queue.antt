@@ -1,5 +1,6 @@
 -- What is put into a buffer of which the first `used` bytes wait to be written. Definitions only.
 use Rattle.std.specs.Prelude.{◌≡◌, List, ◌++◌, ◌⊎◌, ℕ, ◌+◌, ◌<◌, ◌≤◌, length, take, set, Option, Some, None}
+use Rattle.output.specs.declared.buffer.Out.{Out}
 
 -- The number that says that a write has failed.
 abbrev pub stopped : ℕ
@@ -26,6 +27,14 @@ pub record Waiting : Type 0 where
 abbrev pub count : Option ℕ → ℕ
 count (Some n) = n
 count None = stopped
+
+-- What waits in the buffer that an Out holds.
+abbrev pub seen : Out → Waiting
+seen o = record { bytes = o.bytes.now; used = count o.waiting; lent = o.bytes.ghost_name }
+
+-- The lent buffer is still the same, and as long.
+abbrev pub SameBuffer : Waiting → Waiting → Type 0
+SameBuffer w w' = (w'.lent ≡ w.lent) × (length w'.bytes ≡ length w.bytes)
 
 -- A text was put behind the bytes that wait, in the same lent buffer.
 pub record TextPut (t : List ℕ) (w w' : Waiting) : Type 0 where

@@ -1,12 +1,11 @@
 // A lent buffer in front of standard output: the bytes that wait in it, and writing them.
 ghost use Rattle.std.specs.Prelude.{◌≡◌, [], ◌∷◌, ◌+◌, ◌-◌, ◌<◌, ◌≤◌, true, false, length, take, set};
 ghost use Rattle.words.specs.Told.{Told};
-ghost use Rattle.output.specs.Queue.{stopped, TextPut, Flushed, Stored};
+ghost use Rattle.output.specs.Queue.{stopped, count, seen, TextPut, Flushed, Stored};
 ghost use Rattle.output.specs.Decimal.{decimal};
 
 use crate::streams::{Streams, fail};
 use std::io::Print;
-use std::marker::Model;
 
 // The first n bytes of buf, or all of it where it has fewer.
 pub fn front(buf: &[u8], n: usize) -> &[u8]
@@ -27,7 +26,8 @@ pub fn print(to: Streams, bytes: &[u8]) -> bool {
 }
 
 // Bytes of which so many wait at the start to be written; or none once a write has failed, and then
-// everything that is put is dropped.
+// everything that is put is dropped. It has no model: a type with one tells its caller nothing of what the lent
+// bytes are once it is let go.
 #[derive(Drop)]
 pub struct Out<'a> {
     pub to: Streams,
@@ -35,18 +35,11 @@ pub struct Out<'a> {
     pub waiting: Option<usize>,
 }
 
-impl<'a> Model for Out<'a> {
-    ghost use Rattle.output.specs.Queue.{count, Waiting};
-
-    ghost Value = { Waiting };
-
-    ghost view = { λ o. record { bytes = o.bytes.now; used = count o.waiting; lent = o.bytes.ghost_name } };
-}
-
 impl<'a> Out<'a> {
     // Nothing waits yet.
     pub fn new(to: Streams, bytes: &'a mut [u8]) -> Out<'a>
-        ensures { (result.bytes ≡ bytes.old) × (result.used ≡ 0) × (result.lent ≡ bytes.entry.ghost_name) }
+        ensures same_buffer { result.bytes.ghost_name ≡ bytes.entry.ghost_name }
+        ensures start { (result.bytes.now ≡ bytes.old) × (count result.waiting ≡ 0) }
     {
         Out {
             to,
@@ -57,7 +50,7 @@ impl<'a> Out<'a> {
 
     // The bytes that wait; none once a write has failed.
     pub fn waiting(&self) -> &[u8]
-        ensures { self.now.used < stopped → result.now ≡ take self.now.used self.now.bytes }
+        ensures { count self.now.waiting < stopped → result.now ≡ take (count self.now.waiting) self.now.bytes.now }
     {
         match self.waiting {
             Some(n) => front(self.bytes, n),
@@ -67,7 +60,7 @@ impl<'a> Out<'a> {
 
     // Whether the waiting bytes could be written.
     fn write(&self) -> bool
-        ensures { result ≡ true → (self.now.used ≤ length self.now.bytes) × (self.now.used < stopped) }
+        ensures { result ≡ true → (count self.now.waiting ≤ length self.now.bytes.now) × (count self.now.waiting < stopped) }
     {
         match self.waiting {
             Some(n) => n <= self.bytes.len() && print(self.to, &self.bytes[..n]),
@@ -77,10 +70,10 @@ impl<'a> Out<'a> {
 
     // Writes the waiting bytes, and answers whether that and all writes before went well.
     pub fn flush(&mut self) -> bool
-        ensures told { Told (self.new.used ≡ 0) result }
-        ensures kept { self.new.bytes ≡ self.old.bytes }
-        ensures same_buffer { self.new.lent ≡ self.old.lent }
-        ensures flushed { Flushed self.old.bytes self.old.used self.new.used }
+        ensures told { Told (count self.new.waiting ≡ 0) result }
+        ensures kept { self.new.bytes.now ≡ self.old.bytes.now }
+        ensures same_buffer { self.new.bytes.ghost_name ≡ self.old.bytes.ghost_name }
+        ensures flushed { Flushed self.old.bytes.now (count self.old.waiting) (count self.new.waiting) }
     {
         let written = self.write();
         self.waiting = if written { Some(0) } else { None };
@@ -89,7 +82,7 @@ impl<'a> Out<'a> {
 
     // How many places there are behind the waiting bytes; none once a write has failed.
     pub(crate) fn places(&self) -> usize
-        ensures { result ≡ length self.now.bytes - self.now.used }
+        ensures { result ≡ length self.now.bytes.now - count self.now.waiting }
     {
         match self.waiting {
             Some(n) => self.bytes.len().saturating_sub(n),
@@ -99,8 +92,8 @@ impl<'a> Out<'a> {
 
     // Stores a byte behind the waiting ones, where it has a place, and answers whether it has.
     fn store(&mut self, byte: u8) -> bool
-        ensures placed { result ≡ true → Stored byte self.old self.new }
-        ensures full { result ≡ false → (self.new ≡ self.old) × (length self.old.bytes ≤ self.old.used) }
+        ensures placed { result ≡ true → Stored byte (seen self.old) (seen self.new) }
+        ensures full { result ≡ false → (seen self.new ≡ seen self.old) × (length self.old.bytes.now ≤ count self.old.waiting) }
     {
         let Some(n) = self.waiting else {
             return false;
@@ -115,7 +108,7 @@ impl<'a> Out<'a> {
 
     // Puts a byte behind the waiting ones, which are written first where the buffer is full.
     pub fn put(&mut self, byte: u8)
-        ensures { TextPut (byte ∷ []) self.old self.new }
+        ensures { TextPut (byte ∷ []) (seen self.old) (seen self.new) }
     {
         if self.store(byte) {
             return;
@@ -129,7 +122,7 @@ impl<'a> Out<'a> {
 
     // Puts bytes, one after the other.
     pub fn put_all(&mut self, bytes: &[u8])
-        ensures { TextPut bytes.now self.old self.new }
+        ensures { TextPut bytes.now (seen self.old) (seen self.new) }
     {
         for byte in bytes {
             self.put(*byte);
@@ -138,7 +131,7 @@ impl<'a> Out<'a> {
 
     // Puts a number in decimal.
     pub fn put_number(&mut self, n: u64)
-        ensures { TextPut (decimal n) self.old self.new }
+        ensures { TextPut (decimal n) (seen self.old) (seen self.new) }
     {
         let mut digits = [0u8; 20];
         let k = io::decimal(n, &mut digits);

@@ -1,7 +1,7 @@
 // Bytes in lowercase hexadecimal, put into the buffer as many at a time as it has places for.
 ghost use Rattle.std.specs.Prelude.{◌≡◌};
 ghost use Rattle.text.specs.Lines.{hex_of};
-ghost use Rattle.output.specs.Queue.{TextPut};
+ghost use Rattle.output.specs.Queue.{count, seen, TextPut};
 ghost use Rattle.output.specs.Places.{Spelt, SpeltSome, TwoPlaces};
 
 use crate::buffer::Out;
@@ -23,9 +23,9 @@ fn spell(bytes: &[u8], places: &mut [u8]) -> usize
 impl<'a> Out<'a> {
     // Leaves places for two digits: the waiting bytes are written first where two have none.
     fn make_room_for_two(&mut self)
-        ensures kept { self.new.bytes ≡ self.old.bytes }
-        ensures same_buffer { self.new.lent ≡ self.old.lent }
-        ensures two { TwoPlaces self.old.bytes self.old.used self.new.used }
+        ensures kept { self.new.bytes.now ≡ self.old.bytes.now }
+        ensures same_buffer { self.new.bytes.ghost_name ≡ self.old.bytes.ghost_name }
+        ensures two { TwoPlaces self.old.bytes.now (count self.old.waiting) (count self.new.waiting) }
     {
         if self.places() < 2 {
             self.flush();
@@ -34,7 +34,7 @@ impl<'a> Out<'a> {
 
     // Puts the digits of as many bytes as there are places for, and answers how many; of none only where a write has failed.
     fn put_some_hex(&mut self, bytes: &[u8]) -> usize
-        ensures { SpeltSome bytes.now self.old self.new result }
+        ensures { SpeltSome bytes.now (seen self.old) (seen self.new) result }
     {
         self.make_room_for_two();
         if self.places() < 2 {
@@ -51,7 +51,7 @@ impl<'a> Out<'a> {
 
     // Puts bytes in lowercase hexadecimal.
     pub fn put_hex(&mut self, bytes: &[u8])
-        ensures { TextPut (hex_of bytes.now) self.old self.new }
+        ensures { TextPut (hex_of bytes.now) (seen self.old) (seen self.new) }
     {
         let mut done = 0;
         // How many bytes a turn takes is known only in it, so no range or iterator has the turns.

@@ -8,7 +8,7 @@ ghost use Rattle.text.specs.Lines.{lines_of};
 ghost use Rattle.trees.specs.Shape.{tree_most};
 ghost use Rattle.table.specs.Opening.{Opens};
 ghost use Rattle.long_line.specs.Held.{count_most, LongHeld};
-ghost use Rattle.output.specs.Queue.{Waiting, TextPut};
+ghost use Rattle.output.specs.Queue.{Waiting, seen, SameBuffer, TextPut};
 ghost use Rattle.respond.specs.Response.{SameRoom, line_answer};
 ghost use Rattle.pieces.specs.Piece.{FeedFree, LinesAnswered, PieceSoFar};
 
@@ -27,10 +27,11 @@ pub fn answer(
     counts: &mut [u64],
 )
     ensures same_room { SameRoom scratch.old.room scratch.new.room }
+    ensures same_buffer { SameBuffer (seen out.old) (seen out.new) }
     ensures answered { (cs : List ℕ) (t : Reply Table) → length cs < count_most → tree_most < length tree.now
         → LongHeld question.entry.frames.now question.entry.numbers.now (2 * length tree.now) cs tree.now line
         → Opens question.entry.frames.now question.entry.numbers.now t question.entry.opening
-        → TextPut (line_answer question.entry.asked t (length scratch.old.room.now) cs) out.old out.new }
+        → TextPut (line_answer question.entry.asked t (length scratch.old.room.now) cs) (seen out.old) (seen out.new) }
 {
     let counted = question.to_line(line, tree, scratch, out);
     line_counts::raise(counts, counted);
@@ -56,12 +57,13 @@ fn take_line(
 ) -> Taken
     requires { at < length piece.now }
     ensures same_room { SameRoom scratch.old.room scratch.new.room }
+    ensures same_buffer { SameBuffer (seen out.old) (seen out.new) }
     ensures at_lt_at { (at < result.at) × (result.at ≤ length piece.now) }
     ensures by_index { (T₀ : List ℕ) (l₀ : LongLine) (O₀ : Waiting)
         → PieceSoFar question.entry.asked question.entry.frames.now question.entry.numbers.now T₀ l₀ question.entry.opening
-        (length scratch.old.room.now) piece.now O₀ at out.old tree.old line
+        (length scratch.old.room.now) piece.now O₀ at (seen out.old) tree.old line
         → PieceSoFar question.entry.asked question.entry.frames.now question.entry.numbers.now T₀ l₀ question.entry.opening
-        (length scratch.old.room.now) piece.now O₀ result.at out.new tree.new result.line }
+        (length scratch.old.room.now) piece.now O₀ result.at (seen out.new) tree.new result.line }
 {
     let fed = hexline::feed_all(line.line, &piece[at..], tree);
     let line = long_line::with_rest(line, fed.line);
@@ -88,12 +90,13 @@ pub fn take(
     counts: &mut [u64],
 ) -> LongLine
     ensures same_room { SameRoom scratch.old.room scratch.new.room }
+    ensures same_buffer { SameBuffer (seen out.old) (seen out.new) }
     ensures answered { (cs : List ℕ) (t : Reply Table) → FeedFree cs → length cs + length piece.now < count_most
         → 2 * tree_most + 2 + length piece.now ≤ 2 * length tree.old
         → LongHeld question.entry.frames.now question.entry.numbers.now (2 * length tree.old) cs tree.old line
         → Opens question.entry.frames.now question.entry.numbers.now t question.entry.opening
         → LinesAnswered question.entry.asked question.entry.frames.now question.entry.numbers.now t (length scratch.old.room.now)
-        (lines_of (cs ++ piece.now)) out.old out.new (2 * length tree.new) tree.new result }
+        (lines_of (cs ++ piece.now)) (seen out.old) (seen out.new) (2 * length tree.new) tree.new result }
 {
     let Question {
         frames,

@@ -28,7 +28,7 @@ fn read_under(last: u8, stream: &[u8]) -> Result<u8, No>
 
 // Reads a stream: the last symbol of the list under which it is a record's; or 20 for the list, then 21 to 23, then 6 for an image of
 // too many symbols.
-pub fn read(table: &OpenTable<'_>, stream: &[u8]) -> Result<u8, No>
+pub fn read(table: &OpenTable<'_, '_>, stream: &[u8]) -> Result<u8, No>
     ensures few_read { FewRead stream.now result }
     ensures meant { Means table.now (λ M. RecordRead M.arities stream.now result) }
 {

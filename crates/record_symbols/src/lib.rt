@@ -20,7 +20,7 @@ fn wrong_at(i: usize) -> Result<u8, No>
 }
 
 // The last symbol of an opened table, where all symbols before it have arity 2 and it has 0; or 20.
-pub fn last_symbol(table: &OpenTable<'_>) -> Result<u8, No>
+pub fn last_symbol(table: &OpenTable<'_, '_>) -> Result<u8, No>
     ensures { Means table.now (λ M. result ≡ last_symbol M.arities) }
 {
     let last = layout::symbols(table.numbers).saturating_sub(1);

@@ -32,7 +32,7 @@ fn spell(stream: &[u8], last: u8, room: &mut [u8]) -> Result<usize, No>
 }
 
 // The tree bytes of a record by an opened table, written to the front of the room; or the refusal, and the room as it was.
-pub fn tree(table: &OpenTable<'_>, stream: &[u8], room: &mut [u8]) -> Result<usize, No>
+pub fn tree(table: &OpenTable<'_, '_>, stream: &[u8], room: &mut [u8]) -> Result<usize, No>
     ensures { Means table.now
         (λ M. Spells (on_table tree_of_record M stream.now (length room.old)) room.old room.new result) }
 {

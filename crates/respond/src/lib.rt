@@ -13,6 +13,7 @@ ghost use Rattle.why_no_word.specs.Answer.{Answers};
 ghost use Rattle.spelling.specs.Spells.{Spells};
 ghost use Rattle.table.specs.Opening.{Opens};
 ghost use Rattle.long_line.specs.Held.{count_most, LongHeld};
+ghost use Rattle.output.specs.Queue.{seen, SameBuffer};
 ghost use Rattle.answers.specs.Lines.{bytes_line};
 ghost use Rattle.respond.specs.Response.{of_stream, reply_to, letters_line, given_line, SameRoom, Responds, Answered};
 
@@ -54,7 +55,8 @@ pub const STRANGE: usize = 25;
 
 // A refusal: its number and place. Answers where it is counted, as all these do.
 fn refused(no: No, out: &mut Out) -> usize
-    ensures { (text : List ℕ → List ℕ) → Responds text (Reply·refusal no) out.old out.new result }
+    ensures same_buffer { SameBuffer (seen out.old) (seen out.new) }
+    ensures answered { (text : List ℕ → List ℕ) → Responds text (Reply·refusal no) (seen out.old) (seen out.new) result }
 {
     let numbers = [u64::from(no.number), no.place as u64];
     answers::put_no(&numbers, out);
@@ -63,8 +65,9 @@ fn refused(no: No, out: &mut Out) -> usize
 
 // The answer of a call that finds a word, which stands first in the room.
 fn put_found(found: Result<Letters, No>, room: &[u8], out: &mut Out) -> usize
-    ensures { (a : Reply (List ℕ)) (R : List ℕ) → Answers a R room.now found
-        → Responds letters_line a out.old out.new result }
+    ensures same_buffer { SameBuffer (seen out.old) (seen out.new) }
+    ensures answered { (a : Reply (List ℕ)) (R : List ℕ) → Answers a R room.now found
+        → Responds letters_line a (seen out.old) (seen out.new) result }
 {
     match found {
         Ok(word) => {
@@ -78,8 +81,9 @@ fn put_found(found: Result<Letters, No>, room: &[u8], out: &mut Out) -> usize
 
 // The answer of a call that writes bytes to the front of the room, with the name of what they are.
 fn put_spelled(name: &[u8], spelled: Result<usize, No>, room: &[u8], out: &mut Out) -> usize
-    ensures { (a : Reply (List ℕ)) (R : List ℕ) → Spells a R room.now spelled
-        → Responds (bytes_line name.now) a out.old out.new result }
+    ensures same_buffer { SameBuffer (seen out.old) (seen out.new) }
+    ensures answered { (a : Reply (List ℕ)) (R : List ℕ) → Spells a R room.now spelled
+        → Responds (bytes_line name.now) a (seen out.old) (seen out.new) result }
 {
     match spelled {
         Ok(n) => {
@@ -109,8 +113,9 @@ impl<'a> Question<'a> {
     // The answer to bytes by an opened table.
     fn to_bytes(self, bytes: &[u8], scratch: &mut Scratch, out: &mut Out) -> usize
         ensures same_room { SameRoom scratch.old.room scratch.new.room }
+        ensures same_buffer { SameBuffer (seen out.old) (seen out.new) }
         ensures answered { Meant self.entry.frames.now self.entry.numbers.now (λ M.
-            Responds (given_line self.entry.asked) (reply_to self.entry.asked M bytes.now (length scratch.old.room.now)) out.old out.new result) }
+            Responds (given_line self.entry.asked) (reply_to self.entry.asked M bytes.now (length scratch.old.room.now)) (seen out.old) (seen out.new) result) }
     {
         let Question {
             frames,
@@ -157,10 +162,11 @@ impl<'a> Question<'a> {
     // refusal is known; of a tree that is too long any bytes are.
     fn to_held(self, line: LongLine, tree: &[u8], scratch: &mut Scratch, out: &mut Out) -> usize
         ensures same_room { SameRoom scratch.old.room scratch.new.room }
+        ensures same_buffer { SameBuffer (seen out.old) (seen out.new) }
         ensures answered { (cs bs : List ℕ) → length cs < count_most → tree_most < length tree.now → bytes_of cs ≡ some bs
             → LongHeld self.entry.frames.now self.entry.numbers.now (2 * length tree.now) cs tree.now line
             → Meant self.entry.frames.now self.entry.numbers.now (λ M.
-            Responds (given_line self.entry.asked) (reply_to self.entry.asked M bs (length scratch.old.room.now)) out.old out.new result) }
+            Responds (given_line self.entry.asked) (reply_to self.entry.asked M bs (length scratch.old.room.now)) (seen out.old) (seen out.new) result) }
     {
         if is_long_stream(self.asked, line) {
             let Question {
@@ -178,10 +184,11 @@ impl<'a> Question<'a> {
     // The answer to a whole line: one that is not hexadecimal first, then a refused table.
     pub fn to_line(self, line: LongLine, tree: &[u8], scratch: &mut Scratch, out: &mut Out) -> usize
         ensures same_room { SameRoom scratch.old.room scratch.new.room }
+        ensures same_buffer { SameBuffer (seen out.old) (seen out.new) }
         ensures answered { (cs : List ℕ) (t : Reply Table) → length cs < count_most → tree_most < length tree.now
             → LongHeld self.entry.frames.now self.entry.numbers.now (2 * length tree.now) cs tree.now line
             → Opens self.entry.frames.now self.entry.numbers.now t self.entry.opening
-            → Answered self.entry.asked t (bytes_of cs) (length scratch.old.room.now) out.old out.new result }
+            → Answered self.entry.asked t (bytes_of cs) (length scratch.old.room.now) (seen out.old) (seen out.new) result }
     {
         if !long_line::is_hex(line) {
             out.put_all(b"not hex\n");

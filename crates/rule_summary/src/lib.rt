@@ -53,7 +53,7 @@ fn with_word(x: Summary, frames: &[u8], p: usize, n: usize, side: Side) -> Summa
 
 // The summary of the words of rule number i. Once no word is known, none will be.
 pub fn rule_value(
-    table: &OpenTable<'_>,
+    table: &OpenTable<'_, '_>,
     i: usize,
     side: Side,
     values: &[Summary; STATES],

@@ -20,7 +20,13 @@ use rule_leaves::Rules;
 use same_words::same_words_in;
 
 // Whether rule i, of state q, and the rule of r for its symbol have as many children and the same words in turn.
-fn same_shape(first: &OpenTable<'_>, q: usize, i: usize, second: &OpenTable<'_>, r: usize) -> bool
+fn same_shape(
+    first: &OpenTable<'_, '_>,
+    q: usize,
+    i: usize,
+    second: &OpenTable<'_, '_>,
+    r: usize,
+) -> bool
     requires { i < rows_most }
     ensures { (M N : Table) (a : Row) → Opened first.now.frames.now first.now.numbers.now M
         → Opened second.now.frames.now second.now.numbers.now N → RowOf M q i a → r < N.states
@@ -36,10 +42,10 @@ fn same_shape(first: &OpenTable<'_>, q: usize, i: usize, second: &OpenTable<'_>,
 
 // Whether the rows of q and r match up to the children's states: the same rules are there, with the same words in turn.
 pub fn same_shapes<'a>(
-    first: &OpenTable<'a>,
+    first: &OpenTable<'a, 'a>,
     q: usize,
     mine: Rules,
-    second: &OpenTable<'a>,
+    second: &OpenTable<'a, 'a>,
     r: usize,
 ) -> bool
     requires { (mine.from ≤ rows_most) × (mine.to ≤ rows_most) }

@@ -26,7 +26,7 @@ fn alike(frames: &[u8], frames2: &[u8], n: usize) -> usize
 }
 
 // The first index where the symbol lists of two opened tables part, or that they are the same.
-pub fn symbols_part(first: &OpenTable<'_>, second: &OpenTable<'_>) -> Option<usize>
+pub fn symbols_part(first: &OpenTable<'_, '_>, second: &OpenTable<'_, '_>) -> Option<usize>
     ensures { (M N : Table) → Opened first.now.frames.now first.now.numbers.now M
         → Opened second.now.frames.now second.now.numbers.now N → parting_of result ≡ parting M.arities N.arities }
 {

@@ -51,7 +51,7 @@ fn words_from(frames: &[u8], p: usize, frames2: &[u8], s: usize, kids: usize) ->
 }
 
 // Whether two rules have as many children and the same words in turn, by what is kept for them. Counts are compared first.
-pub fn same_words_in(first: &OpenTable<'_>, x: u64, second: &OpenTable<'_>, y: u64) -> bool
+pub fn same_words_in(first: &OpenTable<'_, '_>, x: u64, second: &OpenTable<'_, '_>, y: u64) -> bool
     ensures { (M N : Table) (a b : Row) → RowIn first.now.frames.now first.now.numbers.now M a x
         → RowIn second.now.frames.now second.now.numbers.now N b y → Told (Rules Any (some a.rule) (some b.rule)) result }
 {

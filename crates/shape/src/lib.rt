@@ -50,7 +50,7 @@ fn tree_at(
 }
 
 // Whether tree bytes are one tree of at most 64 levels over the symbols: how long it is, or the refusal 6, 7, 8, 10 or 11.
-pub fn check(table: &OpenTable<'_>, tree: &[u8]) -> Result<usize, No>
+pub fn check(table: &OpenTable<'_, '_>, tree: &[u8]) -> Result<usize, No>
     ensures { Means table.now (λ M. result ≡ size (read_tree M.arities tree.now)) }
 {
     if tree.is_empty() || layout::TREE < tree.len() {

@@ -69,6 +69,8 @@ pub fn at_end(elements: usize, place: usize) -> Result<(), No>
 pub fn check(bytes: &[u8], last: u8, close: u8) -> Result<(), No>
     ensures { result ≡ check_stream close last bytes.now }
 {
-    let elements = go_on(bytes, last, close, 0, 0)?;
-    at_end(elements, bytes.len())
+    match go_on(bytes, last, close, 0, 0) {
+        Ok(elements) => at_end(elements, bytes.len()),
+        Err(no) => Err(no),
+    }
 }

@@ -3,7 +3,7 @@ use mathlib.Core.Path.{◌≡◌, refl, sym, ap, ◌∙◌}
 use mathlib.Core.List.{List, [], ◌∷◌, map}
 use Prim.Native.Nat.{ℕ, zero, suc, ◌+◌, ◌-◌, ◌*◌, ◌≤◌, ◌<◌}
 use native.Mathlib.Omega.{arith}
-use lib.ListN.{length, set, length-map, length-set, get_or-map}
+use lib.ListN.{length, get_or, set, length-map, length-set, get_or-map}
 use lib.Seq.{set-get_or}
 use Rattle.text.specs.Limits.{states_most}
 use Rattle.end_laws.specs.Ends.{Ends, unknown, join, rank, at, ranks}
@@ -11,6 +11,7 @@ use Rattle.end_laws.proofs.Ranks.{join_rank, join_same, ranks_le, ranks_set}
 use Rattle.summary.specs.Codes.{decode, untold, K, summaries}
 use Rattle.summary.specs.declared.Summary.{Summary}
 use Rattle.summary.specs.Grown.{Grown}
+use Rattle.summary.proofs.Codes.{nothing_known}
 
 -- ---- summaries in a list
 -- A list in which one element is replaced, seen through a function.
@@ -21,7 +22,7 @@ map_set f (x ∷ l) (suc i) a = ap (λ m. f x ∷ m) (map_set f l i a)
 
 -- The summary of a state in the list of summaries.
 pub summary_at : (xs : List Summary) (q : ℕ) → at (summaries xs) q ≡ K xs q
-summary_at xs q = get_or-map decode xs q untold
+summary_at xs q = ap (λ d. get_or (map decode xs) q d) (sym nothing_known) ∙ get_or-map decode xs q untold
 
 -- The summaries by the states' numbers.
 pub summary_all : (xs : List Summary) → at (summaries xs) ≡ K xs

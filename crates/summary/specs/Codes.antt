@@ -1,5 +1,5 @@
 -- Summaries as they are kept for each state. Definitions only.
-use Rattle.std.specs.Prelude.{◌≡◌, true, false, List, map, ℕ, get_or}
+use Rattle.std.specs.Prelude.{◌≡◌, true, false, List, map, ℕ, zero, suc, ◌%◌, ltb, get_or}
 use Rattle.words.specs.Word.{Word}
 use Rattle.end_laws.specs.Ends.{left, right, nothing, one, several, Ends, stuck}
 use Rattle.end_laws.specs.Ends as ends
@@ -20,17 +20,26 @@ letters_of Nothing = nothing
 letters_of (One a) = one a
 letters_of Several = several
 
+-- The letters that a number tells: 0 for none, the letter and one more for one, from 257 on for several.
+unfoldable pub letters_told : ℕ → ends.Letters
+letters_told zero = nothing
+letters_told (suc a) = elim (ltb a 256) [ true ↦ one a | false ↦ several ]
+
+-- The summary that a number tells: from 1024 on with the empty word, and below that its letters. So 0 tells that no word is known.
+abbrev pub summary_told : ℕ → Ends
+summary_told n = record { empty = ltb 1023 n; letters = letters_told (n % 1024) }
+
 -- The summary that the code names.
 abbrev pub decode : Summary → Ends
-decode x = record { empty = x.empty; letters = letters_of x.letters }
+decode x = summary_told x.code
 
 -- No word is known.
 abbrev pub untold : Summary
-untold = record { empty = false; letters = Nothing }
+untold = record { code = 0 }
 
 -- The empty word alone.
 abbrev pub only_empty : Summary
-only_empty = record { empty = true; letters = Nothing }
+only_empty = record { code = 1024 }
 
 -- The summaries of the states in turn.
 abbrev pub summaries : List Summary → List Ends

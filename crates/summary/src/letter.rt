@@ -13,8 +13,7 @@ impl Summary {
         ensures { decode result ≡ alone (some a) }
     {
         Summary {
-            empty: false,
-            letters: Letters::One(a),
+            code: u16::from(a) + 1,
         }
     }
 
@@ -22,17 +21,17 @@ impl Summary {
     pub fn narrow(self) -> bool
         ensures { result ≡ false → Firm (decode self) }
     {
-        self.empty && self.letters != Letters::Several
+        self.has_empty() && self.letters() != Letters::Several
     }
 
     // Whether a word that begins with this letter can be pushed to the left of a state with this summary.
     pub fn stuck_by(self, a: u8) -> bool
         ensures { (w : Word) → result ≡ stuck (decode self) (a ∷ w) }
     {
-        if !self.empty {
+        if !self.has_empty() {
             return false;
         }
-        match self.letters {
+        match self.letters() {
             Letters::Nothing => true,
             Letters::One(b) => a == b,
             Letters::Several => false,

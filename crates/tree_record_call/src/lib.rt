@@ -25,7 +25,7 @@ fn is_image(tree: &[u8], last: u8) -> bool
 }
 
 // Whether tree bytes are a record's image, told by their shape first; where that is right, what refuses their stream is 24's place.
-fn by_shape(table: &OpenTable<'_>, last: u8, tree: &[u8]) -> Result<(), No>
+fn by_shape(table: &OpenTable<'_, '_>, last: u8, tree: &[u8]) -> Result<(), No>
     requires { 0 < length tree.now }
     ensures { Means table.now
         (λ M. last_symbol M.arities ≡ given last → result ≡ image_told M.arities last tree.now) }
@@ -42,7 +42,7 @@ fn by_shape(table: &OpenTable<'_>, last: u8, tree: &[u8]) -> Result<(), No>
 }
 
 // Whether tree bytes are a record's image: if their stream says so, only 10 can be against it; else their shape tells.
-fn check(table: &OpenTable<'_>, last: u8, tree: &[u8]) -> Result<(), No>
+fn check(table: &OpenTable<'_, '_>, last: u8, tree: &[u8]) -> Result<(), No>
     requires { (0 < length tree.now) × (length tree.now ≤ tree_most) }
     ensures { Means table.now
         (λ M. last_symbol M.arities ≡ given last → result ≡ image_told M.arities last tree.now) }
@@ -71,7 +71,12 @@ fn put(tree: &[u8], last: u8, room: &mut [u8]) -> Result<usize, No>
 }
 
 // The record under a list with that last symbol: 6, then the other refusals of the image, then 12.
-fn record_under(table: &OpenTable<'_>, last: u8, tree: &[u8], room: &mut [u8]) -> Result<usize, No>
+fn record_under(
+    table: &OpenTable<'_, '_>,
+    last: u8,
+    tree: &[u8],
+    room: &mut [u8],
+) -> Result<usize, No>
     ensures { Means table.now (λ M. last_symbol M.arities ≡ given last
         → Spells (on_table record_of_tree M tree.now (length room.old)) room.old room.new result) }
 {
@@ -86,7 +91,7 @@ fn record_under(table: &OpenTable<'_>, last: u8, tree: &[u8], room: &mut [u8]) -
 }
 
 // The stream of the record of which tree bytes are the image, written to the front of the room; or the refusal, and the room as it was.
-pub fn record(table: &OpenTable<'_>, tree: &[u8], room: &mut [u8]) -> Result<usize, No>
+pub fn record(table: &OpenTable<'_, '_>, tree: &[u8], room: &mut [u8]) -> Result<usize, No>
     ensures { Means table.now
         (λ M. Spells (on_table record_of_tree M tree.now (length room.old)) room.old room.new result) }
 {

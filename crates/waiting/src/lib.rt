@@ -47,7 +47,8 @@ fn next_of(kids: usize, below: u16, first: usize) -> usize
 impl<'a> Stack<'a> {
     // A stack with one place taken, on which this number waits.
     pub fn new(places: &'a mut [u16; PLACES], number: u16) -> Stack<'a>
-        ensures { (result.top ≡ 1) × (length result.places.now ≡ 208) × (result.places.now ≡ set places.old 0 number) }
+        ensures same_places { result.places.ghost_name ≡ places.entry.ghost_name }
+        ensures begun { (result.top ≡ 1) × (length result.places.now ≡ 208) × (result.places.now ≡ set places.old 0 number) }
     {
         places[0] = number;
         Stack { places, top: 1 }
@@ -73,6 +74,7 @@ impl<'a> Stack<'a> {
     // Puts the numbers of a rule's last three children, where they are behind the first, on the stack.
     fn push(&mut self, level: usize, x: u64)
         requires { (level ≤ states_most * depth_most) × (self.old.top + 3 ≤ 208) }
+        ensures same_places { self.new.places.ghost_name ≡ self.old.places.ghost_name }
         ensures pushed { ChildrenPushed x level self.old.top self.old.places.now self.new.places.now }
         ensures top { self.new.top ≡ self.old.top }
     {
@@ -86,6 +88,7 @@ impl<'a> Stack<'a> {
     // what waits there; the answer is the number that comes next.
     pub fn turn(&mut self, next: usize, x: u64) -> usize
         requires { (next < states_most * depth_most) × (0 < self.old.top) × (self.old.top + 3 ≤ 208) }
+        ensures same_places { self.new.places.ghost_name ≡ self.old.places.ghost_name }
         ensures made { TurnMade x next self.old.top self.old.places.now self.new.places.now result }
         ensures few { self.new.top < self.old.top + 7 }
         ensures top { ToldBy x self.new.top (λ r. self.old.top + length r.rest - 1) }

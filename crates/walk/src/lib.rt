@@ -42,7 +42,10 @@ pub fn lacking(
     let mut next = at + 1;
     for j in 0..kids {
         let state = rule_leaves::child_in(x, j);
-        next = lacking(levels - 1, numbers, tree, next, state)?;
+        match lacking(levels - 1, numbers, tree, next, state) {
+            Ok(behind) => next = behind,
+            Err(lack) => return Err(lack),
+        }
     }
     Ok(next)
 }

@@ -32,7 +32,7 @@ fn place_of(walk: Result<usize, Lack>) -> usize
 
 // Why there is no word, where there is none: 6, 7, 8, 10, 11 for the tree's shape, else 9 at the
 // first position without a rule.
-pub fn why(table: &OpenTable<'_>, tree: &[u8]) -> No
+pub fn why(table: &OpenTable<'_, '_>, tree: &[u8]) -> No
     ensures { Means table.now (λ M. Wordless M tree.now M.start
         → word_on M tree.now ≡ refused result.number result.place) }
 {

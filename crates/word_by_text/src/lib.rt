@@ -16,7 +16,9 @@ pub fn word(text: &[u8], tree: &[u8], room: &mut [u8]) -> Result<Letters, No>
 {
     let mut frames = [0u8; layout::FRAMES];
     let mut numbers = [0u64; layout::NUMBERS];
-    table::read(text, &mut frames, &mut numbers)?;
+    if let Err(no) = table::read(text, &mut frames, &mut numbers) {
+        return Err(no);
+    }
     let mut plan = [0u32; layout::TREE];
     word_call::find(&frames, &numbers, tree, &mut plan, room)
 }

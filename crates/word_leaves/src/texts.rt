@@ -21,7 +21,7 @@ fn text_length(numbers: &[u64], i: usize) -> usize
 }
 
 // The bytes of rule number i. Where numbers that mean no table tell bytes that are not there, there are none.
-pub fn rule_text<'a>(table: &OpenTable<'a>, i: usize) -> &'a [u8]
+pub fn rule_text<'f>(table: &OpenTable<'f, '_>, i: usize) -> &'f [u8]
     requires { i < rows_most }
     ensures result_len_bound { length result.now ≤ 270 }
     ensures result_value { (M : Table) (r : Row) → Opened table.now.frames.now table.now.numbers.now M → RowAt M i r → result.now ≡ rule_text r.rule }

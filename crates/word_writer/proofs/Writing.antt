@@ -1,7 +1,7 @@
 -- Writing the word of a planned tree, for every table, tree and word at once: what holds before a word is put, and what the whole answers. Assumes nothing.
 use mathlib.Core.Path.{◌≡◌, refl, sym, ap, subst, subst⁻¹, ◌∙◌}
 use mathlib.Core.List.{List, [], ◌∷◌, ◌++◌, append_assoc, append-nil}
-use Prim.Native.Nat.{ℕ, ◌+◌, ◌-◌, ◌/◌, ◌%◌, ◌≤◌}
+use Prim.Native.Nat.{ℕ, ◌+◌, ◌-◌, ◌/◌, ◌%◌, ◌≤◌, ◌<◌}
 use native.Mathlib.Omega.{arith}
 use borrow.Rule.Slice.PartMut.{put_mid, same_len_mid}
 use lib.ListN.{length, get_or, take, drop, length-append, length-drop, length-take}
@@ -14,7 +14,7 @@ use Rattle.layout.specs.Layout.{frames_size}
 use Rattle.layout.specs.Leaves.{Spot, Put}
 use Rattle.word_leaves.proofs.Spots.{spot_within}
 use Rattle.walk.specs.Plan.{plan_unit}
-use Rattle.word_writer.specs.WordWritten.{Due, WordWritten, Tidy, GoesOn}
+use Rattle.word_writer.specs.WordWritten.{Due, WordWritten, Tidy, GoesOn, EndsBehind}
 use Rattle.word_writer.specs.declared.Written.{Written}
 use Rattle.word_writer.proofs.Planned.{ChildrenToWrite, NextToWrite, no_levels, no_place, named_rule, left_next, left_last, next_level, next_place}
 
@@ -25,6 +25,14 @@ NodeWrites F P levels at n R' r = (M : Table) (q : ℕ) (t : Tree) (w : Word) �
 -- There is no planned tree with a word that n letters of room are enough for.
 abbrev pub Nothing : List ℕ → List ℕ → ℕ → ℕ → ℕ → Type 0
 Nothing F P levels at n = (M : Table) (q : ℕ) (t : Tree) (w : Word) → Due F P at levels n M q t w → ⊥
+
+-- Whoever stops at a place behind its own, within the plan, is tidy and has gone onward.
+pub stopped : {R R' : List ℕ} {at end next : ℕ} → length R' ≡ length R → end ≤ length R → next ≤ tree_most → at < next
+    → Tidy R R' (record { letters = end; place = next }) × EndsBehind at (record { letters = end; place = next })
+stopped long letters place behind = (
+  record { long = long; letters = letters; place = place },
+  record { behind = λ h. behind; past = λ h. absurd (omega (arith, place, behind, h)) },
+)
 
 -- Before a word is put: acc stands at the front of the room, `end` letters of it; the word u at spot p is next, and what the children behind it write
 -- makes w whole.

@@ -7,10 +7,10 @@ use Rattle.summary.specs.Codes.{summaries}
 use Rattle.empty_words.specs.Blank.{Blanks}
 use Rattle.empty_words.proofs.blanks.Given as goal
 
-abbrev pub invariant-loop-k : goal.invariant-loop-k
-invariant-loop-k l =
+abbrev pub invariant-loop-numbers : goal.invariant-loop-numbers
+invariant-loop-numbers l =
     MeantBy l.numbers (λ M. Blanks M l.values)
 
-abbrev pub decreases-loop-k : goal.decreases-loop-k
-decreases-loop-k l =
+abbrev pub decreases-loop-numbers : goal.decreases-loop-numbers
+decreases-loop-numbers l =
     3 * states_most - ranks (summaries l.values)

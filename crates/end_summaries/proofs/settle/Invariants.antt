@@ -8,11 +8,11 @@ use Rattle.summary.specs.Codes.{side_of, K, summaries}
 use Rattle.empty_words.specs.Blank.{EmptyTold}
 use Rattle.end_summaries.proofs.settle.Given as goal
 
-abbrev pub invariant-loop-side : goal.invariant-loop-side
-invariant-loop-side l =
+abbrev pub invariant-loop-table : goal.invariant-loop-table
+invariant-loop-table l =
     Means l.table (λ M. (Witnessed M (side_of l.side) (K l.initial.values) → Witnessed M (side_of l.side) (K l.values))
     × (EmptyTold M (K l.initial.values) → EmptyTold M (K l.values)))
 
-abbrev pub decreases-loop-side : goal.decreases-loop-side
-decreases-loop-side l =
+abbrev pub decreases-loop-table : goal.decreases-loop-table
+decreases-loop-table l =
     3 * states_most - ranks (summaries l.values)

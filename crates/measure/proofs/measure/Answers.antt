@@ -27,8 +27,8 @@ returns-then-not-ready-clause-by_index c =
 pub loop-at-init : goal.loop-at-init
 loop-at-init c =
     let r = c.ready.ensures.if_true c.if-not-ready.false in
-    rw c.new-stack.ensures.0
-    (measuring_first c.args.numbers.now c.args.tree.now _ _ c.start-next.result r.short r.places c.new-stack.ensures.1 c.start-next.ensures.meant_by)
+    rw c.new-stack.ensures.begun.0
+    (measuring_first c.args.numbers.now c.args.tree.now _ _ c.start-next.result r.short r.places c.new-stack.ensures.begun.1 c.start-next.ensures.meant_by)
 
 pub returns-then-not-usual-clause-by_index : goal.returns-then-not-usual-clause-by_index
 returns-then-not-usual-clause-by_index c =

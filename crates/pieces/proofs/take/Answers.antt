@@ -6,13 +6,14 @@ use Rattle.pieces.proofs.take.Goals as goal
 
 pub loop-at-init : goal.loop-at-init
 loop-at-init c =
-    (so_far_none _, (refl, refl), refl)
+    (so_far_none _, (refl, refl), (refl, refl), refl)
 
 pub loop-at-preserved : goal.loop-at-preserved
 loop-at-preserved c = (
   so_far_room c.args.piece.now c.loop-at.invariant.1.1 (c.take_line-taken.ensures.by_index _ _ _) c.loop-at.invariant.0,
   (c.take_line-taken.ensures.same_room.0 ∙ c.loop-at.invariant.1.0, c.take_line-taken.ensures.same_room.1 ∙ c.loop-at.invariant.1.1),
-  c.take_line-taken.auto.counts ∙ c.loop-at.invariant.2,
+  (c.take_line-taken.ensures.same_buffer.0 ∙ c.loop-at.invariant.2.0, c.take_line-taken.ensures.same_buffer.1 ∙ c.loop-at.invariant.2.1),
+  c.take_line-taken.auto.counts ∙ c.loop-at.invariant.3,
 )
 
 pub returns-clause-answered : goal.returns-clause-answered

@@ -2,6 +2,6 @@
 use Rattle.respond.proofs.Laws as law
 use Rattle.respond.proofs.put_spelled.Goals as goal
 
-pub returns-in-Err : goal.returns-in-Err
-returns-in-Err c =
-    λ a R h. law.bytes_refused c.args.name.now a R _ _ _ _ _ _ c.in-Err.is h c.refused.ensures
+pub returns-in-Err-clause-answered : goal.returns-in-Err-clause-answered
+returns-in-Err-clause-answered c =
+    λ a R h. law.bytes_refused c.args.name.now a R _ _ _ _ _ _ c.in-Err.is h c.refused.ensures.answered

@@ -1,8 +1,9 @@
 -- `rule_value` meets its contract.
 use native.Mathlib.Omega.{arith}
-use mathlib.Core.Path.{◌≡◌, ap}
+use mathlib.Core.Path.{◌≡◌, ap, ◌∙◌}
 use Rattle.summary.specs.Codes.{side_of, decode, untold}
 use Rattle.summary.specs.declared.Summary.{Summary}
+use Rattle.summary.proofs.Codes.{nothing_known}
 use borrow.Author.Rules.{rules}
 use Rattle.word_leaves.proofs.Ahead.{ahead_begun, ahead_more, ahead_none}
 use Rattle.rule_summary.proofs.Walks.{gathering_begun, gathering_more, gathering_done, gathering_none}
@@ -23,8 +24,8 @@ loop-child-init c = (
 pub returns-then-eq : goal.returns-then-eq
 returns-then-eq c =
     let same : ◌≡◌ {A = Summary} c.loop-child.x untold = search rules in
-    λ M row o e. gathering_none (side_of c.args.side) c.args.values.now (c.loop-child.invariant.1 M row o e)
-    (ap decode same)
+    λ M row o e. nothing_known ∙ gathering_none (side_of c.args.side) c.args.values.now (c.loop-child.invariant.1 M row o e)
+    (ap decode same ∙ nothing_known)
 
 pub loop-child-preserved : goal.loop-child-preserved
 loop-child-preserved c =

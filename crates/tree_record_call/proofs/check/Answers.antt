@@ -8,4 +8,4 @@ returns c =
     λ M o e.
     levels_image M.arities c.args.last c.args.tree.now c.levels.result (omega (arith, c.ranges.last)) (omega (arith, c.requires.0)) e
     (c.is_image.ensures.if_true c.if-not-is_image.false)
-    (λ r s l i. c.levels.ensures M.arities c.args.last r s l (omega arith) i (omega (arith, c.requires.1, front_long c.args.tree.now)))
+    (λ r s l i. c.levels.ensures.told M.arities c.args.last r s l (omega arith) i (omega (arith, c.requires.1, front_long c.args.tree.now)))

@@ -3,4 +3,4 @@ use Rattle.verdict.proofs.judge_opened.Goals as goal
 
 pub returns : goal.returns
 returns c =
-    c.judge_reached.ensures c.reach.ensures
+    c.judge_reached.ensures c.find_reached.ensures

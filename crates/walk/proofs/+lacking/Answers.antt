@@ -1,12 +1,12 @@
 -- `lacking` meets its contract. Assumes nothing.
-use mathlib.Core.Path.{refl, sym}
+use mathlib.Core.Path.{refl, sym, subst}
 use mathlib.Core.Logic.{⊎_elim}
 use Prim.Native.Nat.{◌-◌, ◌<◌, ◌≤◌}
 use native.Mathlib.Nat.{le_of_eq}
 use native.Mathlib.Omega.{arith}
 use lib.ListN.{length}
-use Rattle.std.proofs.lemmas.Result.{err_from_is_err_and}
 use Rattle.trees.proofs.Levels.{no_level}
+use Rattle.walk.specs.Walked.{Onward}
 use Rattle.walk.proofs.Roots.{no_byte}
 use Rattle.walk.proofs.LeftToWalk.{missing_lacks, walking_first}
 use Rattle.walk.proofs.Turns.{walking_last, walking_next, walking_lost}
@@ -29,23 +29,23 @@ loop-j-init t c = (
   omega arith,
 )
 
-pub returns-in_err-next-clause-by_index : goal.returns-in_err-next-clause-by_index
-returns-in_err-next-clause-by_index t c =
+pub returns-in-Err-clause-by_index : goal.returns-in-Err-clause-by_index
+returns-in-Err-clause-by_index t c =
     λ F M t' h.
-    let no = err_from_is_err_and c.from_residual.result c.from_residual.ensures.1 in
-    rw (no.1, no.2) (walking_lost h (c.args.levels - 1) c.args.q c.kept_for-x.result c.loop-j.j c.loop-j.next (c.loop-j.invariant.0 F M t' h)
+    walking_lost h (c.args.levels - 1) c.args.q c.kept_for-x.result c.loop-j.j c.loop-j.next (c.loop-j.invariant.0 F M t' h)
     c.kids_in-kids.result c.kids_in-kids.ensures.by_index c.loop-j-test.true
     c.child_in-state.result c.child_in-state.ensures.by_index c.lacking.result (c.lacking.ensures.by_index F M)
-    c.in_err-next.field-0.0 c.in_err-next.was)
+    c.in-Err.lack c.in-Err.is
 
 pub loop-j-preserved : goal.loop-j-preserved
 loop-j-preserved t c =
-    let o : (c.loop-j.next < c.in_ok-next.next) × (c.in_ok-next.next ≤ length c.args.tree.now) = c.in_ok-next.ensures.onward in (
+    let o : (c.loop-j.next < c.in-Ok.behind) × (c.in-Ok.behind ≤ length c.args.tree.now) =
+    subst (Onward c.loop-j.next (length c.args.tree.now)) c.in-Ok.is c.lacking.ensures.onward in (
       λ F M t' h.
           walking_next h (c.args.levels - 1) c.args.q c.kept_for-x.result c.loop-j.j c.loop-j.next (c.loop-j.invariant.0 F M t' h)
           c.kids_in-kids.result c.kids_in-kids.ensures.by_index c.loop-j-test.true
           c.child_in-state.result c.child_in-state.ensures.by_index c.lacking.result (c.lacking.ensures.by_index F M)
-          c.in_ok-next.next c.in_ok-next.was,
+          c.in-Ok.behind c.in-Ok.is,
       omega (arith, o, c.loop-j.invariant),
       o.1,
     )

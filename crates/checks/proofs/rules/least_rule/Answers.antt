@@ -3,6 +3,8 @@ use native.Mathlib.Omega.{arith}
 use mathlib.Core.Path.{ap, ◌∙◌}
 use lib.ListN.{length, get_elem?}
 use Rattle.end_laws.specs.Companion.{least}
+use Rattle.layout.specs.Layout.{Opened}
+use Rattle.layout.proofs.Means.{read_by}
 use Rattle.summary.specs.Codes.{K}
 use Rattle.checks.proofs.Tests.{least_on, least_here, least_end}
 use Rattle.checks.proofs.Rows.{free_at, row_test}
@@ -22,9 +24,10 @@ loop-i-init c = (
 pub returns-then-not-free_rule : goal.returns-then-not-free_rule
 returns-then-not-free_rule c =
     λ M o.
-    let v = c.loop-i.invariant.1 M o in
+    let as_read : Opened c.args.table.now.frames.now c.in-Ok.numbers.now M = read_by c.in-Ok.ensures.1.same o in
+    let v = c.loop-i.invariant.1 M as_read in
     let test = row_test M c.args.left.now c.loop-i.i c.free_rule.result (omega (arith, v.0)) (λ row e.
-    c.free_rule.ensures M row o e) in
+    c.free_rule.ensures M row as_read e) in
     let whole = v.1 ∙ ap (λ k. least (free_at M c.args.left.now) k 0) v.0 in
     least_here (free_at M c.args.left.now) c.rules-i-end.result c.loop-i.i whole (omega arith) test c.if-not-free_rule.true
 
@@ -41,6 +44,7 @@ loop-i-preserved c = (
 pub returns : goal.returns
 returns c =
     λ M o.
-    let v = c.loop-i.invariant.1 M o in
+    let as_read : Opened c.args.table.now.frames.now c.in-Ok.numbers.now M = read_by c.in-Ok.ensures.1.same o in
+    let v = c.loop-i.invariant.1 M as_read in
     let whole = v.1 ∙ ap (λ n. least (free_at M c.args.left.now) n 0) v.0 in
     least_end (free_at M c.args.left.now) c.rules-i-end.result c.loop-i.i whole (omega arith)

@@ -1,7 +1,11 @@
 -- `add_state` meets its contract.
+use mathlib.Core.Path.{◌≡◌, sym, ap, ◌∙◌}
 use native.Mathlib.Omega.{arith}
 use borrow.Author.Rules.{rules}
 use Rattle.rule_leaves.proofs.Numbered.{row_state_small}
+use Rattle.summary.specs.Codes.{letters_of}
+use Rattle.summary.specs.declared.Letters.{Letters}
+use Rattle.summary.specs.declared.Letters.TheVariants.{Several}
 use Rattle.summary.proofs.Growing.{grown_none, grown_then, grown_most}
 use Rattle.end_summaries.proofs.Rounds.{state_none, several_tried, numbers_none, numbers_more}
 use Rattle.end_summaries.proofs.adding.add_state.Goals as goal
@@ -20,7 +24,8 @@ loop-i-init c = (
 
 pub returns-then-eq-clause-adds : goal.returns-then-eq-clause-adds
 returns-then-eq-clause-adds c =
-    λ M o. several_tried o.limited.made.rising (c.loop-i.invariant.3 M o).1 (search rules)
+    let told : ◌≡◌ {A = Letters} c.letters.result Several = search rules in
+    λ M o. several_tried o.limited.made.rising (c.loop-i.invariant.3 M o).1 (sym c.letters.ensures ∙ ap letters_of told)
 
 pub overflow_add-k : goal.overflow_add-k
 overflow_add-k c =

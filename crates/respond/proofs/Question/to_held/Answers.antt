@@ -10,7 +10,7 @@ returns-then-is_long_stream-clause-answered c =
     λ cs bs n m e h M o.
     let long = law.long_stream c.args.self.asked c.args.line.past.bytes (sym c.is_long_stream.ensures ∙ c.if-is_long_stream.true) in
     law.responds_as (law.stream_refused c.args.self.asked M bs (length c.args.scratch.now.room.now) _ long.0
-    (c.refusal-no.ensures cs bs n e long.1 h M o)) (c.refused.ensures (given_line c.args.self.asked))
+    (c.refusal-no.ensures cs bs n e long.1 h M o)) (c.refused.ensures.answered (given_line c.args.self.asked))
 
 pub returns-clause-answered : goal.returns-clause-answered
 returns-clause-answered c =

@@ -18,4 +18,4 @@ pub returns-in-Err-clause-answered : goal.returns-in-Err-clause-answered
 returns-in-Err-clause-answered c =
     λ cs t n m h o.
     law.refused_answered _ cs _ _ _ _ t _ _ _ _ _ c.in-Err.is o (c.is_hex.ensures _ _ cs _ _ h) (not-false _ c.if-not-is_hex.false-raw)
-    c.refused.ensures
+    c.refused.ensures.answered

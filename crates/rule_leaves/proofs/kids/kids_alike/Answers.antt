@@ -1,15 +1,15 @@
 -- `kids_alike` meets its contract: the children of each number are compared by their states.
 use mathlib.Core.Path.{◌≡◌, sym, ap, ◌∙◌}
-use Prim.Native.Nat.{ℕ, zero, suc, ◌+◌, ◌-◌, ◌<◌}
+use mathlib.Core.List.{List}
+use Prim.Native.Nat.{ℕ, zero, suc, ◌+◌, ◌-◌, ◌<◌, ◌≤◌}
 use native.Mathlib.Omega.{arith}
 use lib.ListN.{length, get_or}
 use Rattle.words.proofs.Told.{told_yes, told_no}
-use Rattle.machine.specs.Machine.{Rule}
+use Rattle.machine.specs.Machine.{Child, Rule}
 use Rattle.layout.specs.Leaves.{Encodes, state_no}
 use Rattle.layout.specs.Kids.{Alike}
 use Rattle.rule_leaves.proofs.Children.{one_more, kid_at, kids_of}
 use Rattle.rule_leaves.proofs.kids.kids_alike.Goals as goal
-use Rattle.rule_leaves.proofs.kids.kids_alike.Goals.{After-loop-n}
 
 pub returns-then-kids-eq0 : goal.returns-then-kids-eq0
 returns-then-kids-eq0 c =
@@ -49,17 +49,29 @@ loop-n-preserved c =
     ∙ c.if-map-later_in.false
     ∙ ap (λ (q : ℕ). get_or c.args.map2.now q 0) (c.later_in-in-loop-n.ensures.by_index k b j g (s ∙ e)))
 
--- The children of each number are alike behind the loop.
-each : (c : After-loop-n) → (i k : ℕ) (a b : Rule) → Encodes c.args.x i a → Encodes c.args.y k b → length a.rest ≡ length b.rest
-    → (n : ℕ) → n < length a.rest → Alike c.args.map.now c.args.map2.now (state_no a.rest n) (state_no b.rest n)
-each c i k a b h g e zero l =
-    ap (λ (s : ℕ). get_or c.args.map.now s 0) (sym (c.first_in.ensures.by_index i a h))
+-- The children of each number are alike where the first are, and those with less than n others behind them, and no more than n are.
+each : (R : ℕ → ℕ → Type 0) (cs ds : List Child) (n : ℕ) → R (state_no cs 0) (state_no ds 0)
+    → ((m : ℕ) → m < n → (j : ℕ) → suc (suc j) + m ≡ length cs → R (state_no cs (suc j)) (state_no ds (suc j))) → length cs ≤ n + 1
+    → (k : ℕ) → k < length cs → R (state_no cs k) (state_no ds k)
+each R cs ds n first later few zero l = first
+each R cs ds n first later few (suc j) l = later (length cs - (2 + j)) (omega (arith, l, few)) j (omega (arith, l))
+
+pub returns-then-kids-n : goal.returns-then-kids-n
+returns-then-kids-n c =
+    λ i k a b h g e.
+    told_yes (kids_of (Alike c.args.map.now c.args.map2.now) a.rest b.rest e
+    (each (Alike c.args.map.now c.args.map2.now) a.rest b.rest c.loop-n.n
+    (ap (λ (s : ℕ). get_or c.args.map.now s 0) (sym (c.first_in.ensures.by_index i a h))
     ∙ c.if-map-first_in.false
-    ∙ ap (λ (s : ℕ). get_or c.args.map2.now s 0) (c.first_in-2.ensures.by_index k b g)
-each c i k a b h g e (suc j) l =
-    c.loop-n.invariant i k a b h g e (length a.rest - (2 + j))
-    (omega (arith, l, c.kids_in-kids.ensures.by_index i a h, c.loop-n-test.false)) j (omega (arith, l))
+    ∙ ap (λ (s : ℕ). get_or c.args.map2.now s 0) (c.first_in-2.ensures.by_index k b g))
+    (c.loop-n.invariant i k a b h g e) (omega (arith, c.kids_in-kids.ensures.by_index i a h, c.if-kids-n.true))))
 
 pub returns : goal.returns
 returns c =
-    λ i k a b h g e. told_yes (kids_of (Alike c.args.map.now c.args.map2.now) a.rest b.rest e (each (goal.at.returns c).After-loop-n i k a b h g e))
+    λ i k a b h g e.
+    told_yes (kids_of (Alike c.args.map.now c.args.map2.now) a.rest b.rest e
+    (each (Alike c.args.map.now c.args.map2.now) a.rest b.rest c.loop-n.n
+    (ap (λ (s : ℕ). get_or c.args.map.now s 0) (sym (c.first_in.ensures.by_index i a h))
+    ∙ c.if-map-first_in.false
+    ∙ ap (λ (s : ℕ). get_or c.args.map2.now s 0) (c.first_in-2.ensures.by_index k b g))
+    (c.loop-n.invariant i k a b h g e) (omega (arith, h.modest.kids, c.loop-n-test.false))))
