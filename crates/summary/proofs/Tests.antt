@@ -24,8 +24,12 @@ unfolding letters_told
 blank_alone = refl
 
 -- The empty word.
-pub end_empty : (side : Side) (w : Word) → length w ≡ 0 → decode only_empty ≡ alone (end side w)
-end_empty side w e = blank_alone ∙ sym (ap alone (end_none side w e))
+pub end_empty : (side : Side) (w : Word) → length w ≡ 0 → blank ≡ alone (end side w)
+end_empty side w e = sym (ap alone (end_none side w e))
+
+-- The empty word, as it is kept.
+pub end_kept_empty : (side : Side) (w : Word) → length w ≡ 0 → decode only_empty ≡ alone (end side w)
+end_kept_empty side w e = blank_alone ∙ end_empty side w e
 
 module _ (w : Word) (some-letter : 0 < length w) (x : Ends) (a : ℕ) (e : x ≡ alone (some a)) where
   -- A word seen from the left, by its first letter.
